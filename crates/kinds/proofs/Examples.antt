@@ -1,0 +1,55 @@
+-- Small cases, computed. Assumes nothing.
+use mathlib.Core.Path.{_≡_, refl}
+use mathlib.Core.Bool.{true, false}
+use mathlib.Core.List.{List, [], _∷_, _++_}
+use Prim.Native.Nat.{ℕ}
+use lib.ListN.{replicate}
+use Rattle.kinds.specs.Objectives.{coverage, facility, concave}
+use Rattle.kinds.specs.Matroids.{partition, laminar}
+
+-- a frame is its set of classes: 3 shows 0 and 1, 2 shows 1; class 2 is shown by none
+covered : coverage (λ x. x) (5 ∷ 7 ∷ 9 ∷ []) (3 ∷ 2 ∷ []) ≡ 12
+unfolding coverage
+covered = refl
+
+-- look 0 is like view 0 by 4 and view 1 by 6; look 1 is like view 0 by 8
+liked : facility (λ x. x) (4 ∷ 6 ∷ replicate 62 0 ++ (8 ∷ [])) (0 ∷ 1 ∷ []) ≡ 14
+unfolding facility
+liked = refl
+
+-- two frames of lane 1, one of lane 0, and one of a lane that adds nothing
+stepped : concave (λ x. x) (9 ∷ replicate 7 0 ++ (6 ∷ 5 ∷ 4 ∷ [])) (1 ∷ 0 ∷ 70 ∷ 1 ∷ []) ≡ 20
+unfolding concave
+stepped = refl
+
+-- nine frames are worth eight steps
+filled : concave (λ x. x) (replicate 512 1) (replicate 9 3) ≡ 8
+unfolding concave
+filled = refl
+
+abbrev pairs : List ℕ
+pairs = 64 ∷ 64 ∷ replicate 94 255
+
+-- lanes 0 and 1 stand in box 64, which has room for two; no frame of a lane above 63 has room
+abbrev room : List ℕ
+room = replicate 64 2 ++ (2 ∷ [])
+
+fits : laminar (λ x. x) pairs room (0 ∷ 1 ∷ 5 ∷ []) ≡ true
+unfolding laminar
+fits = refl
+
+full : laminar (λ x. x) pairs room (0 ∷ 1 ∷ 0 ∷ []) ≡ false
+unfolding laminar
+full = refl
+
+above : laminar (λ x. x) pairs room (64 ∷ []) ≡ false
+unfolding laminar
+above = refl
+
+parted : partition (λ x. x) room (0 ∷ 1 ∷ 0 ∷ []) ≡ true
+unfolding partition
+parted = refl
+
+over : partition (λ x. x) room (0 ∷ 0 ∷ 0 ∷ []) ≡ false
+unfolding partition
+over = refl

@@ -1,0 +1,79 @@
+-- Room by lanes, and by boxes that hold lanes and one another. Assumes nothing.
+use mathlib.Core.Path.{_≡_, refl, sym, subst}
+use mathlib.Core.Bool.{Bool, true}
+use mathlib.Core.List.{List}
+use mathlib.Core.Logic.{⊎-elim}
+use Prim.Native.Nat.{ℕ, zero, suc, _+_, _≤_, _<_}
+use native.Mathlib.Omega.{arith}
+use lib.Dec.{eqb, ltb}
+use lib.ListN.{getD}
+use Rattle.std.proofs.shelf.Lists.{getD-past}
+use Rattle.std.proofs.shelf.Tests.{cases-lt, eqb-true, or-cases, or-left, or-right}
+use Rattle.theory.specs.Bag.{Same}
+use Rattle.theory.specs.Laws.{MatroidLaws}
+use Rattle.kinds.specs.Matroids.{inLanes, partition, parentOf, reaches, laminar, Parents}
+use Rattle.kinds.proofs.Boxes.{box-matroid, free-matroid}
+use Rattle.kinds.proofs.Caps.{Nests, splits-none, under-matroid}
+
+module _ {A : Type 0} {same : A → A → Bool} (eq : Same same) (lane : A → ℕ) where
+  lanes-matroid : (box : ℕ → A → Bool) (caps : List ℕ) (n : ℕ) → ((i j : ℕ) → i < n → j < i → Nests (box j) (box i)) → MatroidLaws same (inLanes lane box caps n)
+  lanes-matroid box caps n h = under-matroid box (λ j. getD caps j 0) eq (box-matroid eq (free-matroid eq) (λ x. ltb 63 (lane x)) (λ s. refl) 0) (λ p. splits-none p (λ x. ltb 63 (lane x))) n h
+
+  pub partition-matroid : (caps : List ℕ) → MatroidLaws same (partition lane caps)
+  unfolding partition
+  partition-matroid caps = lanes-matroid (λ l x. eqb (lane x) l) caps 64 (λ i j k l x e f. absurd (omega (arith, eqb-true (lane x) j e, eqb-true (lane x) i f)))
+
+reaches-self : (parents : List ℕ) (k b j : ℕ) → eqb b j ≡ true → reaches parents k b j ≡ true
+reaches-self parents zero b j h = h
+reaches-self parents (suc k) b j h = or-left (eqb b j) (reaches parents k (parentOf parents b) j) h
+
+module _ (parents : List ℕ) (law : Parents parents) where
+  -- a parent that is a box stands above its box
+  above : (b j : ℕ) → j < 96 → parentOf parents b ≤ j → b < parentOf parents b
+  above b j l h = ⊎-elim (λ low. omega (arith, law .1 b low)) (λ high. absurd (omega (arith, getD-past parents b 255 (omega (arith, law .0))))) (cases-lt b 96)
+
+  -- a box reaches none below it
+  reaches-up : (k b j : ℕ) → j < 96 → reaches parents k b j ≡ true → b ≤ j
+  reaches-up zero b j l h = omega (arith, eqb-true b j h)
+  reaches-up (suc k) b j l h =
+      ⊎-elim (λ e. omega (arith, eqb-true b j e)) (λ e. let ih = reaches-up k (parentOf parents b) j l e in omega (arith, above b j l ih)) (or-cases (eqb b j) (reaches parents k (parentOf parents b) j) h)
+
+  parent-up : (k b j : ℕ) → j < 96 → reaches parents k (parentOf parents b) j ≡ true → (b < parentOf parents b) × (parentOf parents b ≤ j)
+  parent-up k b j l h = let m = reaches-up k (parentOf parents b) j l h in (above b j l m, m)
+
+  -- as many steps as there are numbers above b are enough
+  pub reaches-enough : (m k b j : ℕ) → j < 96 → 95 ≤ b + k → reaches parents m b j ≡ true → reaches parents k b j ≡ true
+  reaches-enough zero k b j l far h = reaches-self parents k b j h
+  reaches-enough (suc m) zero b j l far h = ⊎-elim (λ e. e) (λ e. absurd (omega (arith, parent-up m b j l e))) (or-cases (eqb b j) (reaches parents m (parentOf parents b) j) h)
+  reaches-enough (suc m) (suc k) b j l far h =
+      ⊎-elim
+      (λ e. reaches-self parents (suc k) b j e)
+      (λ e. or-right (eqb b j) (reaches parents k (parentOf parents b) j) (reaches-enough m k (parentOf parents b) j l (omega (arith, parent-up m b j l e)) e))
+      (or-cases (eqb b j) (reaches parents m (parentOf parents b) j) h)
+
+  -- what b reaches, what it reaches in turn
+  reaches-on : (k m b j i : ℕ) → j < 96 → i < 96 → 95 ≤ b + k → reaches parents k b j ≡ true → reaches parents m j i ≡ true → reaches parents k b i ≡ true
+  reaches-on zero m b j i lj li far h g = reaches-enough m 0 b i li far (subst (λ a. reaches parents m a i ≡ true) (sym (eqb-true b j h)) g)
+  reaches-on (suc k) m b j i lj li far h g =
+      ⊎-elim
+      (λ e. reaches-enough m (suc k) b i li far (subst (λ a. reaches parents m a i ≡ true) (sym (eqb-true b j e)) g))
+      (λ e. or-right (eqb b i) (reaches parents k (parentOf parents b) i) (reaches-on k m (parentOf parents b) j i lj li (omega (arith, parent-up k b j lj e)) e g))
+      (or-cases (eqb b j) (reaches parents k (parentOf parents b) j) h)
+
+  -- of two boxes that b reaches, the lower reaches the other
+  reaches-next : (k b j i : ℕ) → i < 96 → j < i → reaches parents k b j ≡ true → reaches parents k b i ≡ true → (m : ℕ) × (reaches parents m j i ≡ true)
+  reaches-next zero b j i li l h g = absurd (omega (arith, eqb-true b j h, eqb-true b i g))
+  reaches-next (suc k) b j i li l h g =
+      ⊎-elim
+      (λ e. (suc k, subst (λ a. reaches parents (suc k) a i ≡ true) (eqb-true b j e) g))
+      (λ e. ⊎-elim (λ f. absurd (omega (arith, eqb-true b i f, parent-up k b j (omega arith) e))) (λ f. reaches-next k (parentOf parents b) j i li l e f) (or-cases (eqb b i) (reaches parents k (parentOf parents b) i) g))
+      (or-cases (eqb b j) (reaches parents k (parentOf parents b) j) h)
+
+  -- so a box that meets a later one lies in it
+  reaches-nests : {A : Type 0} (lane : A → ℕ) (k : ℕ) → 95 ≤ k → (i j : ℕ) → i < 96 → j < i → Nests (λ x. reaches parents k (lane x) j) (λ x. reaches parents k (lane x) i)
+  reaches-nests lane k far i j li l x h g y e = let on = reaches-next k (lane x) j i li l h g in reaches-on k (on .0) (lane y) j i (omega arith) li (omega arith) e (on .1)
+
+module _ {A : Type 0} {same : A → A → Bool} (eq : Same same) (lane : A → ℕ) where
+  pub laminar-matroid : (parents caps : List ℕ) → Parents parents → MatroidLaws same (laminar lane parents caps)
+  unfolding laminar
+  laminar-matroid parents caps law = lanes-matroid eq lane (λ j x. reaches parents 96 (lane x) j) caps 96 (reaches-nests parents law lane 96 (omega arith))

@@ -1,0 +1,12 @@
+pub mod Counts
+pub mod Lawful
+pub mod Objectives
+pub mod Told
+pub mod Gains
+pub mod Parts
+pub mod Boxes
+pub mod Caps
+pub mod Lanes
+pub mod Meanings
+pub mod Theorems
+pub mod Examples

@@ -1,0 +1,3 @@
+pub mod Objectives
+pub mod Matroids
+pub mod Claims

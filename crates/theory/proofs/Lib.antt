@@ -1,0 +1,16 @@
+pub mod Bags
+pub mod Digits
+pub mod Layers
+pub mod Heavy
+pub mod Values
+pub mod Fitting
+pub mod Lightest
+pub mod Steps
+pub mod Span
+pub mod Places
+pub mod Passed
+pub mod Kept
+pub mod Theorem
+pub mod Orders
+pub mod Ways
+pub mod Examples

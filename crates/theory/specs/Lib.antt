@@ -1,0 +1,5 @@
+pub mod Bag
+pub mod Laws
+pub mod Digits
+pub mod Replay
+pub mod Promise
