@@ -1,2 +1,3 @@
-pub mod Frames
-pub mod Refusals
+pub mod Sheets
+pub mod Format
+pub mod Faults

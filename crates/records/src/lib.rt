@@ -1,2 +1,2 @@
-pub mod frame;
-pub mod refusal;
+pub mod fault;
+pub mod key;

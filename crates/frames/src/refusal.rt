@@ -1,5 +1,5 @@
 ghost use mathlib.Core.Path.{_≡_};
-ghost use Rattle.records.specs.Refusals.{numberOf};
+ghost use Rattle.frames.specs.Refusals.{numberOf};
 
 // Why a call is declined.
 #[derive(Clone, Copy, PartialEq, Eq, Debug)]

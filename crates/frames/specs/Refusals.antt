@@ -1,7 +1,7 @@
 -- Why a call is declined, each with the number that users know it by. Assumes nothing.
 use Prim.Native.Nat.{ℕ}
-use Rattle.records.specs.declared.refusal.Refusal.{Refusal}
-use Rattle.records.specs.declared.refusal.Refusal.the-variants.{BadSize, ShiftFull, NoPlace, ShortSheet, WrongKey, BadForm, Over, Cut, LongText, Miscount, Rising, BadParent}
+use Rattle.frames.specs.declared.refusal.Refusal.{Refusal}
+use Rattle.frames.specs.declared.refusal.Refusal.the-variants.{BadSize, ShiftFull, NoPlace, ShortSheet, WrongKey, BadForm, Over, Cut, LongText, Miscount, Rising, BadParent}
 
 abbrev pub numberOf : Refusal → ℕ
 -- a size of 0 or above 48

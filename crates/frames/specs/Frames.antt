@@ -2,7 +2,7 @@
 use mathlib.Core.Bool.{Bool, _&&_}
 use Prim.Native.Nat.{ℕ, _≤_}
 use lib.Dec.{eqb}
-use Rattle.records.specs.declared.frame.Frame.{Frame}
+use Rattle.frames.specs.declared.frame.Frame.{Frame}
 
 -- all seven numbers are equal
 abbrev pub same : Frame → Frame → Bool
