@@ -1,3 +1,4 @@
+pub mod entry;
 pub mod frame;
 pub mod refusal;
 pub mod setting;

@@ -9,11 +9,8 @@ use lib.ListN.{length, getD}
 use Rattle.std.specs.declared.option.Option.{Option}
 use Rattle.std.specs.declared.option.Option.the-variants.{Some, None}
 use Rattle.std.proofs.shelf.Tests.{leb-true, leb-false, both-ways}
+use Rattle.theory.specs.Lightest.{LightestBelow, LightestIs}
 use Rattle.theory.specs.Replay.{lighter, lightest}
-
-abbrev pub LightestIs : (ℕ → Bool) → List ℕ → Option ℕ → Type 0
-LightestIs counts gs None = (q : ℕ) → q < length gs → counts q ≡ true → ⊥
-LightestIs counts gs (Some p) = (p < length gs) × (counts p ≡ true) × ((q : ℕ) → q < length gs → counts q ≡ true → getD gs p 0 ≤ getD gs q 0) × ((q : ℕ) → q < p → counts q ≡ true → getD gs p 0 < getD gs q 0)
 
 pub lightest-is : (counts : ℕ → Bool) (gs : List ℕ) → LightestIs counts gs (lightest counts gs)
 lightest-is counts [] = λ q h c. omega arith

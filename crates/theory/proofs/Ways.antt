@@ -11,7 +11,8 @@ use Rattle.std.specs.declared.option.Option.{Option}
 use Rattle.std.specs.declared.option.Option.the-variants.{Some, None}
 use Rattle.std.proofs.shelf.Tests.{cases-order, le-leb, lt-leb, eq-eqb, ne-eqb}
 use Rattle.theory.specs.Replay.{State, frames, gains, lightest, gainOf, keep, swap, offer, mayTake, hasRoom, step}
-use Rattle.theory.proofs.Lightest.{LightestIs, lightest-is}
+use Rattle.theory.specs.Lightest.{LightestIs}
+use Rattle.theory.proofs.Lightest.{lightest-is}
 
 -- there is one lightest place at most
 pub lightest-one : (counts : ℕ → Bool) (gs : List ℕ) (o r : Option ℕ) → LightestIs counts gs o → LightestIs counts gs r → o ≡ r
@@ -26,18 +27,18 @@ lightest-from counts gs o h = lightest-one counts gs (lightest counts gs) o (lig
 
 module _ {A : Type 0} (f : List A → ℕ) (adm : List A → Bool) (n : ℕ) (st : State A) (x : A) where
   pub step-empty : gainOf f st x ≡ 0 → step f adm n st x ≡ st
-  step-empty e = ap (λ b. cond b st (cond (hasRoom adm n st x) (keep st x (gainOf f st x)) (offer st x (gainOf f st x) (lightest (mayTake adm st x) (gains (st .kept)))))) (eq-eqb (gainOf f st x) 0 e)
+  step-empty e = ap (λ b. cond b st (cond (hasRoom adm n (st .kept) x) (keep st x (gainOf f st x)) (offer st x (gainOf f st x) (lightest (mayTake adm (st .kept) x) (gains (st .kept)))))) (eq-eqb (gainOf f st x) 0 e)
 
-  some-gain : 0 < gainOf f st x → step f adm n st x ≡ cond (hasRoom adm n st x) (keep st x (gainOf f st x)) (offer st x (gainOf f st x) (lightest (mayTake adm st x) (gains (st .kept))))
-  some-gain pos = ap (λ b. cond b st (cond (hasRoom adm n st x) (keep st x (gainOf f st x)) (offer st x (gainOf f st x) (lightest (mayTake adm st x) (gains (st .kept)))))) (ne-eqb (gainOf f st x) 0 (omega arith))
+  some-gain : 0 < gainOf f st x → step f adm n st x ≡ cond (hasRoom adm n (st .kept) x) (keep st x (gainOf f st x)) (offer st x (gainOf f st x) (lightest (mayTake adm (st .kept) x) (gains (st .kept))))
+  some-gain pos = ap (λ b. cond b st (cond (hasRoom adm n (st .kept) x) (keep st x (gainOf f st x)) (offer st x (gainOf f st x) (lightest (mayTake adm (st .kept) x) (gains (st .kept)))))) (ne-eqb (gainOf f st x) 0 (omega arith))
 
-  pub step-keep : 0 < gainOf f st x → hasRoom adm n st x ≡ true → step f adm n st x ≡ keep st x (gainOf f st x)
-  step-keep pos room = some-gain pos ∙ ap (λ b. cond b (keep st x (gainOf f st x)) (offer st x (gainOf f st x) (lightest (mayTake adm st x) (gains (st .kept))))) room
+  pub step-keep : 0 < gainOf f st x → hasRoom adm n (st .kept) x ≡ true → step f adm n st x ≡ keep st x (gainOf f st x)
+  step-keep pos room = some-gain pos ∙ ap (λ b. cond b (keep st x (gainOf f st x)) (offer st x (gainOf f st x) (lightest (mayTake adm (st .kept) x) (gains (st .kept))))) room
 
-  pub step-offer : 0 < gainOf f st x → hasRoom adm n st x ≡ false → (o : Option ℕ) → LightestIs (mayTake adm st x) (gains (st .kept)) o → step f adm n st x ≡ offer st x (gainOf f st x) o
+  pub step-offer : 0 < gainOf f st x → hasRoom adm n (st .kept) x ≡ false → (o : Option ℕ) → LightestIs (mayTake adm (st .kept) x) (gains (st .kept)) o → step f adm n st x ≡ offer st x (gainOf f st x) o
   step-offer pos room o is =
-      some-gain pos ∙ ap (λ b. cond b (keep st x (gainOf f st x)) (offer st x (gainOf f st x) (lightest (mayTake adm st x) (gains (st .kept))))) room
-      ∙ ap (offer st x (gainOf f st x)) (lightest-from (mayTake adm st x) (gains (st .kept)) o is)
+      some-gain pos ∙ ap (λ b. cond b (keep st x (gainOf f st x)) (offer st x (gainOf f st x) (lightest (mayTake adm (st .kept) x) (gains (st .kept))))) room
+      ∙ ap (offer st x (gainOf f st x)) (lightest-from (mayTake adm (st .kept) x) (gains (st .kept)) o is)
 
   pub offer-swaps : (g p : ℕ) → 2 * getD (gains (st .kept)) p 0 ≤ g → offer st x g (Some p) ≡ swap st p x g
   offer-swaps g p h = ap (λ b. cond b (swap st p x g) st) (le-leb (2 * getD (gains (st .kept)) p 0) g h)

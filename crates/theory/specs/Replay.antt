@@ -44,17 +44,18 @@ abbrev pub offer : {A : Type 0} → State A → A → ℕ → Option ℕ → Sta
 offer st x g None = st
 offer st x g (Some p) = cond (leb (2 * getD (gains (st .kept)) p 0) g) (swap st p x g) st
 
--- a place counts if its frame may be taken out for x
-abbrev pub mayTake : {A : Type 0} → (List A → Bool) → State A → A → ℕ → Bool
-mayTake adm st x p = adm (x ∷ removed (frames (st .kept)) p)
+-- a place counts if x is independent with the kept frames but for the one there
+abbrev pub mayTake : {A : Type 0} → (List A → Bool) → List (A × ℕ) → A → ℕ → Bool
+mayTake adm es x p = adm (x ∷ removed (frames es) p)
 
-abbrev pub hasRoom : {A : Type 0} → (List A → Bool) → ℕ → State A → A → Bool
-hasRoom adm n st x = ltb (length (st .kept)) n && adm (x ∷ frames (st .kept))
+-- fewer than n are kept, and x is independent with them
+abbrev pub hasRoom : {A : Type 0} → (List A → Bool) → ℕ → List (A × ℕ) → A → Bool
+hasRoom adm n es x = ltb (length es) n && adm (x ∷ frames es)
 
 abbrev pub step : {A : Type 0} → (List A → ℕ) → (List A → Bool) → ℕ → State A → A → State A
 step f adm n st x =
     let g = gainOf f st x in
-    cond (eqb g 0) st (cond (hasRoom adm n st x) (keep st x g) (offer st x g (lightest (mayTake adm st x) (gains (st .kept)))))
+    cond (eqb g 0) st (cond (hasRoom adm n (st .kept) x) (keep st x g) (offer st x g (lightest (mayTake adm (st .kept) x) (gains (st .kept)))))
 
 abbrev pub start : {A : Type 0} → State A
 start = record { kept = []; accepted = [] }

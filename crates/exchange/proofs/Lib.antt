@@ -1,0 +1,4 @@
+mod Chosen
+mod Tables
+mod Search
+mod Outcomes

@@ -1,0 +1,4 @@
+pub mod Sizes
+pub mod Tables
+pub mod Outcomes
+pub mod Search
