@@ -1,4 +1,4 @@
 mod Chosen
-mod Tables
+pub mod Tables
 mod Search
-mod Outcomes
+pub mod Outcomes

@@ -6,7 +6,6 @@ use mathlib.Core.Logic.{⊎-elim}
 use Prim.Native.Nat.{ℕ, _+_, _≤_, _<_}
 use native.Mathlib.Omega.{arith}
 use lib.ListN.{getD}
-use Rattle.std.specs.Options.{Cases as BySome}
 use Rattle.std.specs.declared.option.Option.{Option}
 use Rattle.std.specs.declared.option.Option.the-variants.{Some, None}
 use Rattle.std.proofs.shelf.Tests.{ltb-true, ltb-false, both-ways, cases-eq}
@@ -17,10 +16,6 @@ module _ (counts : ℕ → Bool) (gs : List ℕ) (p : ℕ) where
   -- what holds below p and at p holds below p + 1
   upto : {P : ℕ → Type 0} → ((q : ℕ) → q < p → P q) → P p → (q : ℕ) → q < p + 1 → P q
   upto {P} below here q l = ⊎-elim (λ e. subst P (sym e) here) (λ e. below q (omega (arith, e))) (cases-eq q p)
-
-  pub below-within : (o : Option ℕ) (n : ℕ) → p ≤ n → LightestBelow counts gs p o → BySome o (Unit {0}) (λ q. q < n)
-  below-within None n l h = tt
-  below-within (Some q) n l h = omega (arith, h .0)
 
   -- p does not count
   pub search-barred : (o : Option ℕ) → counts p ≡ false → LightestBelow counts gs p o → LightestBelow counts gs (p + 1) o

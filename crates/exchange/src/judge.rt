@@ -1,7 +1,6 @@
 ghost use mathlib.Core.Path.{_≡_};
 ghost use mathlib.Core.List.{_∷_};
 ghost use Prim.Native.Nat.{_<_};
-ghost use Rattle.std.specs.Options.{Cases as BySome};
 ghost use Rattle.std.specs.declared.option.Option.the-variants.{Some as SomeOf};
 ghost use Rattle.theory.specs.Lightest.{LightestIs};
 ghost use Rattle.theory.specs.Replay.{frames, gains, mayTake, hasRoom};
@@ -18,8 +17,6 @@ use matroids::matroid::Matroid;
 impl KeptTable {
     // Whether the place is lighter than the best one so far.
     fn is_lighter(&self, place: usize, best: Option<usize>) -> bool
-        requires place { ⌜ place < now self .len ⌝ }
-        requires best { ⌜ BySome best (Unit {0}) (λ q. q < now self .len) ⌝ }
         ensures { λ r. ⌜ r ≡ lighterThan (gains (held (now (self .entry)))) place best ⌝ }
     {
         match best {

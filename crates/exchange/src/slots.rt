@@ -82,12 +82,15 @@ impl KeptTable {
         self.len = 0;
     }
 
-    // The gain at a place that is kept.
-    pub(crate) fn gain_at(&self, place: usize) -> u32
-        requires { ⌜ place < now self .len ⌝ }
+    // The gain at a place, 0 where none is kept there.
+    pub fn gain_at(&self, place: usize) -> u32
         ensures { λ r. ⌜ r ≡ gainAt (held (now (self .entry))) place ⌝ }
     {
-        self.entries[place].gain
+        if place < self.len {
+            self.entries[place].gain
+        } else {
+            0
+        }
     }
 
     // The frame at a place that is kept.

@@ -11,16 +11,10 @@ use Rattle.frames.specs.declared.frame.Frame.{Frame}
 use Rattle.matroids.specs.Chosen.{chosen}
 use Rattle.exchange.specs.Outcomes.{noFrame}
 use Rattle.exchange.specs.Tables.{held}
-use Rattle.exchange.proofs.Search.{below-within, search-barred, search-heavy, search-found}
+use Rattle.exchange.proofs.Search.{search-barred, search-heavy, search-found}
 use Rattle.exchange.proofs.Tables.{length-gains, row-but}
 use Rattle.exchange.proofs.table.KeptTable.lightest.Needs as need
 use Rattle.exchange.proofs.table.KeptTable.lightest.Needs.{then-is-lighter·then-independent, else-is-lighter, else-is-lighter·by·then-is-lighter·else-independent, else-is-lighter·by·else-is-lighter}
-
-pub is-lighter-requires : need.is-lighter-requires
-is-lighter-requires g c κs = record {
-  place = omega (arith, c .loop-p .inv .0, c .if-p-n .left);
-  best = below-within _ _ (c .loop-p .p) (c .loop-p .best) (c .args .self .now .len) (c .loop-p .inv .0) (c .loop-p .inv .1);
-}
 
 pub loop-p-again : need.loop-p-again
 loop-p-again g c =
