@@ -1,7 +1,7 @@
 -- Frames: when two are equal, and which a shift may take in. Assumes nothing.
 use mathlib.Core.Bool.{Bool, _&&_}
 use Prim.Native.Nat.{ℕ, _≤_}
-use lib.Dec.{eqb}
+use lib.Dec.{eqb, leb}
 use Rattle.frames.specs.declared.frame.Frame.{Frame}
 
 -- all seven numbers are equal
@@ -20,3 +20,10 @@ pub record InRange (x : Frame) : Type 0 where
   pub tail : x .tail ≤ 255
   pub head : x .head ≤ 255
   pub side : x .side ≤ 1
+
+-- the same as a test
+abbrev pub inRange : Frame → Bool
+inRange x =
+    leb (x .number) 4294967295 && leb (x .marks) 18446744073709551615 && leb (x .look) 255 && leb (x .lane) 63 && leb (x .tail) 255
+    && leb (x .head) 255
+    && leb (x .side) 1

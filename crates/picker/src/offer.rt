@@ -1,10 +1,8 @@
-ghost use mathlib.Core.Path.{_≡_};
-ghost use mathlib.Core.Bool.{true};
 ghost use mathlib.Core.List.{List, [], _∷_, _++_};
-ghost use Prim.Native.Nat.{ℕ, _+_, _<_, _≤_};
+ghost use mathlib.Core.Path.{_≡_};
+ghost use Prim.Native.Nat.{_<_};
 ghost use lib.ListN.{length, set};
 ghost use Rattle.exchange.specs.Tables.{held};
-ghost use Rattle.objectives.specs.Meanings.{Added};
 ghost use Rattle.frames.specs.Frames.{InRange};
 ghost use Rattle.picker.specs.Offers.{Offered, Advanced, verdict};
 ghost use Rattle.picker.specs.Settling.{Accepting, Passing};
@@ -18,7 +16,6 @@ use matroids::matroid::Matroid;
 use objectives::objective::Objective;
 
 impl<W: Objective, R: Matroid> Picker<W, R> {
-    // Counts a frame that is passed.
     fn pass(&mut self)
         requires { ⌜ now self .seen < 1000000 ⌝ }
         ensures { λ _. ⌜ Passing (now (self .entry)) (now (self .exit)) ⌝ }
@@ -26,7 +23,6 @@ impl<W: Objective, R: Matroid> Picker<W, R> {
         self.seen += 1;
     }
 
-    // Counts a frame that is accepted, and adds it to the objective.
     fn keep(&mut self, x: Frame, g: u32)
         requires seen { ⌜ now self .seen < 1000000 ⌝ }
         requires room { ⌜ length (held (now self .table)) < now self .size .n ⌝ }
@@ -41,12 +37,56 @@ impl<W: Objective, R: Matroid> Picker<W, R> {
         self.told += u64::from(g);
     }
 
+    // The frame that leaves is not taken back from the objective.
     fn swap(&mut self, x: Frame, g: u32, place: usize)
         requires seen { ⌜ now self .seen < 1000000 ⌝ }
         requires place { ⌜ place < length (held (now self .table)) ⌝ }
         requires range { ⌜ InRange x ⌝ }
         ensures { λ _. ⌜ Accepting (W·Objective .value) (W·Objective .residual) x g (set (held (now (self .entry) .table)) place (x, g)) (now (self .entry)) (now (self .exit)) ⌝ }
     {
-        ...
+        let was = self.table.gain_at(place);
+        self.objective.add(&x);
+        self.table.replace(place, Entry { frame: x, gain: g });
+        self.took += 1;
+        self.seen += 1;
+        self.gain = self.gain - u64::from(was) + u64::from(g);
+        self.told += u64::from(g);
+    }
+
+    // What becomes of `x`, by its gain over all frames that were accepted.
+    fn weigh(&self, x: Frame) -> Outcome
+        ensures { λ r. ⌜ r ≡ verdict (W·Objective .value) (W·Objective .residual) (R·Matroid .admits) (now (self .entry)) x ⌝ }
+    {
+        let gain = self.objective.gain(&x);
+        judge(&self.matroid, self.size, &self.table, x, gain)
+    }
+
+    // Takes in a frame that a record can hold.
+    pub(crate) fn take_in(&mut self, x: Frame) -> Outcome
+        requires seen { ⌜ now self .seen < 1000000 ⌝ }
+        requires range { ⌜ InRange x ⌝ }
+        ensures outcome { λ r. ⌜ r ≡ verdict (W·Objective .value) (W·Objective .residual) (R·Matroid .admits) (now (self .entry)) x ⌝ }
+        ensures after { λ _. ⌜ Advanced (W·Objective .value) (W·Objective .residual) (R·Matroid .admits) (now (self .entry)) (x ∷ []) (now (self .exit)) ⌝ }
+    {
+        let outcome = self.weigh(x);
+        match outcome {
+            Outcome::Kept { gain, .. } => self.keep(x, gain),
+            Outcome::Swapped { place, gain, .. } => self.swap(x, gain, place),
+            _ => self.pass(),
+        }
+        outcome
+    }
+
+    // Takes in a frame, unless its lane or side is too high or the shift is full; then nothing changes.
+    pub fn offer(&mut self, x: Frame) -> Result<Outcome, Refusal>
+        ensures { λ r. ⌜ Offered (W·Objective .value) (W·Objective .residual) (R·Matroid .admits) (now (self .entry)) x r (now (self .exit)) ⌝ }
+    {
+        if x.lane > 63 || x.side > 1 {
+            return Err(Refusal::Over);
+        }
+        if self.seen == 1_000_000 {
+            return Err(Refusal::ShiftFull);
+        }
+        Ok(self.take_in(x))
     }
 }

@@ -1,9 +1,9 @@
+ghost use mathlib.Core.Bool.{true};
 ghost use mathlib.Core.Path.{_≡_};
 ghost use Prim.Native.Nat.{_≤_, _*_};
 ghost use lib.ListN.{length};
-ghost use Rattle.std.specs.shelf.Lists.{All};
 ghost use Rattle.exchange.specs.Tables.{held};
-ghost use Rattle.picker.specs.Entries.{Sound, total};
+ghost use Rattle.picker.specs.Entries.{sound, total};
 use exchange::size::Size;
 use exchange::table::KeptTable;
 
@@ -20,7 +20,7 @@ pub struct Picker<W, R> {
     pub(crate) gain: u64,
     pub(crate) told: u64,
     ghost room: { length (held table) ≤ size .n },
-    ghost sound: { All Sound (held table) },
+    ghost kept: { sound (held table) ≡ true },
     ghost taken: { took ≤ seen },
     ghost bound: { seen ≤ 1000000 },
     ghost gains: { gain ≡ total (held table) },
