@@ -25,26 +25,37 @@ use Rattle.picker.specs.Entries.{total}
 abbrev pub refusalOf : Frame → ℕ → Option Refusal
 refusalOf x seen = cond (ltb 63 (x .lane) || ltb 1 (x .side)) (Some Over) (cond (eqb seen 1000000) (Some ShiftFull) None)
 
--- what is kept, with nothing accepted yet
-abbrev pub now-kept : {W R : Type 0} → Picker W R → State Frame
-now-kept p = record { kept = held (p .table); accepted = [] }
+-- what a picker keeps and has counted
+pub record Standing : Type 0 where
+  pub kept : List (Frame × ℕ)
+  pub took : ℕ
+  pub seen : ℕ
+  pub tells : ℕ
+
+abbrev pub standing : {W R : Type 0} → Picker W R → Standing
+standing p = record { kept = held (p .table); took = p .took; seen = p .seen; tells = p .told }
+
+-- the exchange steps along xs, from what is kept, for the objective f: what is kept then, and what was accepted on the way
+abbrev pub along : (List Frame → ℕ) → (List Frame → Bool) → ℕ → List (Frame × ℕ) → List Frame → State Frame
+along f adm n es xs = folded (step f adm n) (record { kept = es; accepted = [] }) xs
+
+-- q stands where the frames xs lead, one after the other, from `before`, for the objective f, the matroid m and the size n
+pub record After {W R : Type 0} (residual : W → List Frame → ℕ) (admits : R → List Frame → Bool) (f : List Frame → ℕ) (m : R) (n : ℕ) (before : Standing) (xs : List Frame) (q : Picker W R) : Type 0 where
+  pub kept : held (q .table) ≡ along f (admits m) n (before .kept) xs .kept
+  pub took : q .took ≡ before .took + length (along f (admits m) n (before .kept) xs .accepted)
+  pub seen : q .seen ≡ before .seen + length xs
+  pub gain : q .gain ≡ total (along f (admits m) n (before .kept) xs .kept)
+  pub tells : q .told ≡ before .tells + told f (along f (admits m) n (before .kept) xs .accepted)
+  pub size : q .size .n ≡ n
+  pub matroid : q .matroid ≡ m
+  -- what is left to gain is what the accepted frames leave of f
+  pub left : (s : List Frame) → residual (q .objective) s ≡ f (along f (admits m) n (before .kept) xs .accepted ++ s) - f (along f (admits m) n (before .kept) xs .accepted)
 
 module _ {W R : Type 0} (value residual : W → List Frame → ℕ) (admits : R → List Frame → Bool) where
-  -- the exchange steps along xs, from what p keeps: the frames kept then, and those accepted on the way
-  abbrev pub along : Picker W R → List Frame → State Frame
-  along p xs = folded (step (residual (p .objective)) (admits (p .matroid)) (p .size .n)) (now-kept p) xs
-
   -- q is p with the frames xs taken in, one after the other
   pub record Advanced (p : Picker W R) (xs : List Frame) (q : Picker W R) : Type 0 where
-    pub kept : held (q .table) ≡ along p xs .kept
-    pub took : q .took ≡ p .took + length (along p xs .accepted)
-    pub seen : q .seen ≡ p .seen + length xs
-    pub gain : q .gain ≡ total (along p xs .kept)
-    pub tells : q .told ≡ p .told + told (residual (p .objective)) (along p xs .accepted)
-    pub size : q .size .n ≡ p .size .n
-    pub matroid : q .matroid ≡ p .matroid
+    pub stands : After residual admits (residual (p .objective)) (p .matroid) (p .size .n) (standing p) xs q
     pub whole : (s : List Frame) → value (q .objective) s ≡ value (p .objective) s
-    pub left : (s : List Frame) → residual (q .objective) s ≡ residual (p .objective) (along p xs .accepted ++ s) - residual (p .objective) (along p xs .accepted)
 
   -- what becomes of x at p
   abbrev pub verdict : Picker W R → Frame → Outcome

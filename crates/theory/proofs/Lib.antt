@@ -13,4 +13,5 @@ pub mod Kept
 pub mod Theorem
 pub mod Orders
 pub mod Ways
+pub mod Later
 pub mod Examples

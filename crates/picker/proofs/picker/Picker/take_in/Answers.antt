@@ -12,8 +12,8 @@ use Rattle.exchange.specs.declared.outcome.Outcome.the-variants.{Empty, Kept, S
 use Rattle.exchange.specs.Tables.{held}
 use Rattle.exchange.proofs.Outcomes.{settled, Fitting, outcome-fitting}
 use Rattle.picker.specs.declared.picker.Picker.{Picker}
-use Rattle.picker.specs.Offers.{now-kept, verdict}
-use Rattle.picker.proofs.Advances.{advance-passed, advance-accepted}
+use Rattle.picker.specs.Offers.{verdict}
+use Rattle.picker.proofs.Advances.{begun, advance-passed, advance-accepted}
 use Rattle.picker.proofs.picker.Picker.take_in.Needs as need
 
 -- what a verdict may be
@@ -73,5 +73,5 @@ returns-in-rest g c =
     record {
       outcome = c .weigh-outcome .ensures;
       after = advance-passed (g .W·Objective .value) (g .W·Objective .residual) (g .R·Matroid .admits) (g .W·Objective .laws) p (c .pass .last .self) (c .args .x) o (c .weigh-outcome .ensures)
-          (settled-passed (now-kept p) (c .args .x) o (c .in-rest .not-Kept) (c .in-rest .not-Swapped)) (c .pass .ensures);
+          (settled-passed (begun p) (c .args .x) o (c .in-rest .not-Kept) (c .in-rest .not-Swapped)) (c .pass .ensures);
     }
