@@ -30,12 +30,6 @@ impl KeptTable {
         }
     }
 
-    pub fn len(&self) -> usize
-        ensures { λ r. ⌜ r ≡ length (entriesOf (now (self .entry))) ⌝ }
-    {
-        self.len
-    }
-
     // The entry at a place, if one is kept there.
     pub fn get(&self, place: usize) -> Option<Entry>
         ensures { λ r. ⌜ r ≡ nth (entriesOf (now (self .entry))) place ⌝ }
