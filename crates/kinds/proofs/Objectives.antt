@@ -35,7 +35,7 @@ getD-le m [] i h = omega arith
 getD-le m (x ∷ xs) zero h = h .0
 getD-le m (x ∷ xs) (suc i) h = getD-le m xs i (h .1)
 
-cond-le : (b : Bool) (n m : ℕ) → n ≤ m → cond b n 0 ≤ m
+pub cond-le : (b : Bool) (n m : ℕ) → n ≤ m → cond b n 0 ≤ m
 cond-le true n m h = h
 cond-le false n m h = omega arith
 

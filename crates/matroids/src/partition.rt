@@ -10,7 +10,7 @@ ghost use Rattle.kinds.specs.Matroids.{partition as independentIn};
 ghost use Rattle.kinds.proofs.Lanes.{partition-matroid};
 ghost use Rattle.frames.specs.declared.frame.Frame.{Frame as FrameOf};
 ghost use Rattle.frames.specs.Settings.{numbersFault};
-ghost use Rattle.matroids.specs.Equality.{same-frames};
+ghost use Rattle.frames.proofs.Equality.{same-frames};
 use crate::matroid::Matroid;
 use frames::frame::Frame;
 use frames::setting::SettingFault;
@@ -32,7 +32,9 @@ impl PartitionMatroid {
         ensures accepted { λ r. ⌜ made r (λ m. m .caps ≡ now (caps .entry)) ⌝ }
     {
         check_numbers(caps, 64, HIGHEST_CAP)?;
-        Ok(PartitionMatroid { caps: narrowed(caps) })
+        Ok(PartitionMatroid {
+            caps: narrowed(caps),
+        })
     }
 
     // Other caps; caps that are refused leave those that were there.
