@@ -6,7 +6,7 @@ ghost use lib.ListN.{length, getD};
 ghost use Rattle.std.specs.Results.{Cases, errPart};
 ghost use Rattle.std.specs.Vec.{made};
 ghost use Rattle.std.specs.shelf.Lists.{All};
-ghost use Rattle.kinds.specs.Matroids.{partition as independentIn};
+ghost use Rattle.kinds.specs.Matroids.{partition};
 ghost use Rattle.kinds.proofs.Lanes.{partition-matroid};
 ghost use Rattle.frames.specs.declared.frame.Frame.{Frame as FrameOf};
 ghost use Rattle.frames.specs.Settings.{numbersFault};
@@ -48,7 +48,7 @@ impl PartitionMatroid {
 }
 
 pub impl Matroid for PartitionMatroid as PartitionIndependence {
-    ghost admits = { λ m. independentIn (λ x. x .lane) (m .caps) };
+    ghost admits = { λ m. partition (λ x. x .lane) (m .caps) };
 
     ghost laws = { λ m. partition-matroid same-frames (λ x. x .lane) (m .caps) };
 
@@ -81,12 +81,12 @@ fn narrowed(caps: &[u32]) -> [u8; 64]
 // have, and a chosen frame takes one from its lane.
 fn takes(left: &mut [u8], x: &Frame, chosen: bool) -> bool
     requires { ⌜ length (now left) ≡ 64 ⌝ }
-    ensures { λ r. ⌜ ((s : List FrameOf) → independentIn (λ y. y .lane) (now (left .entry)) (cond chosen (now (x .entry) ∷ s) s) ≡ (r && independentIn (λ y. y .lane) (now (left .exit)) s)) ⌝ }
+    ensures { λ r. ⌜ ((s : List FrameOf) → partition (λ y. y .lane) (now (left .entry)) (cond chosen (now (x .entry) ∷ s) s) ≡ (r && partition (λ y. y .lane) (now (left .exit)) s)) ⌝ }
 {
-    let lane = x.lane as usize;
     if !chosen {
         return true;
     }
+    let lane = x.lane as usize;
     if lane >= 64 || left[lane] == 0 {
         return false;
     }
