@@ -95,7 +95,7 @@ shows-and m n i = ap (λ k. eqb (k % 2) 1) (and-shr m n i) ∙ last (m / 2 ^ i) 
 shows-half : (m i : ℕ) → shows m (suc i) ≡ shows (m / 2) i
 shows-half m i = ap (λ k. eqb (k % 2) 1) (ap (λ j. m / 2 ^ j) (sym (one-add i)) ∙ sym (shr-shr m 1 i))
 
--- of n classes, those not in the set
+-- of the classes below n, those that are not in the set
 pub shows-not : (n m i : ℕ) → i < n → m < 2 ^ n → shows (2 ^ n - 1 - m) i ≡ not (shows m i)
 shows-not zero m i l h = absurd (omega arith)
 shows-not (suc n) m zero l h = ap (λ k. eqb (k % 2) 1) (div-one (2 ^ suc n - 1 - m)) ∙ last (m % 2) (omega arith) (omega (arith, pow-suc 2 n)) ∙ ap (λ k. not (eqb (k % 2) 1)) (sym (div-one m))
@@ -122,7 +122,7 @@ module _ {A : Type 0} (marks : A → ℕ) (weights : List ℕ) (s : List A) wher
   unfolding coverage
   classes-all n e = ap (λ k. classesBelow marks weights k s) e
 
--- of the classes below n, x shows to the covered ones what it shows and they lack
+-- class i counts for x if x shows it and it is not covered yet
 pub class-new : {A : Type 0} (marks : A → ℕ) (covered : ℕ) (weights : List ℕ) (x : A) (n i : ℕ) → i < n → covered < 2 ^ n → cond (shows (bitAnd (marks x) (2 ^ n - 1 - covered)) i) (getD weights i 0) 0 ≡ ofClass marks (uncovered covered weights) i (x ∷ [])
 class-new marks covered weights x n i l h = ap (λ b. cond b (getD weights i 0) 0) (shows-and (marks x) (2 ^ n - 1 - covered) i ∙ ap (λ b. shows (marks x) i && b) (shows-not n covered i l h)) ∙ go (shows (marks x) i) (shows covered i) (getD weights i 0) ∙ ap (λ w. cond (shows (marks x) i || false) w 0) (sym (getD-uncovered covered weights i))
   where

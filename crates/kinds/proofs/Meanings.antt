@@ -1,4 +1,4 @@
--- What the tests of room say, of a bag and of one frame more. Assumes nothing.
+-- What the tests of independence say, of a bag and of one frame more. Assumes nothing.
 use mathlib.Core.Path.{_≡_, refl, sym, ap, subst, _∙_}
 use mathlib.Core.Bool.{Bool, true, false}
 use mathlib.Core.List.{List, [], _∷_}
@@ -25,7 +25,7 @@ none-means p (x ∷ s) = (λ h. ⊎-elim (λ e. absurd (omega (arith, leb-true (
 abbrev pub Roomy : {A : Type 0} → (A → ℕ) → (ℕ → A → Bool) → List ℕ → ℕ → List A → Type 0
 Roomy lane box caps n s = All (λ x. lane x < 64) s × ((j : ℕ) → j < n → countBy (box j) s ≤ getD caps j 0)
 
--- x is of a lane, and each box that it lies in has room
+-- x is of a lane, and each box that it lies in has fewer frames than its cap
 abbrev pub RoomFor : {A : Type 0} → (A → ℕ) → (ℕ → A → Bool) → List ℕ → ℕ → List A → A → Type 0
 RoomFor lane box caps n s x = (lane x < 64) × ((j : ℕ) → j < n → box j x ≡ true → countBy (box j) s < getD caps j 0)
 
@@ -70,13 +70,13 @@ module _ {A : Type 0} (lane : A → ℕ) (caps : List ℕ) (x : A) (s : List A) 
         (λ e. omega (arith, count-at (λ y. eqb (lane y) j) x s false (ne-eqb (lane x) j e), getD-set-other caps (lane x) j (getD caps (lane x) 0 - 1) 0 (λ f. e (sym f))))
         (cases-eq (lane x) j)
 
-    -- a frame that has a place takes one from the cap of its lane
+    -- x takes one from the cap of its lane
     pub partition-takes : lane x < 64 → partition lane caps (x ∷ s) ≡ partition lane (set caps (lane x) (getD caps (lane x) 0 - 1)) s
     partition-takes low =
         same-from-decides (partition lane caps (x ∷ s)) (partition lane (set caps (lane x) (getD caps (lane x) 0 - 1)) s) (partition-means lane caps (x ∷ s))
         (decides-like (partition lane (set caps (lane x) (getD caps (lane x) 0 - 1)) s) (λ h. ((low, h .0), λ j l. omega (arith, h .1 j l, lane-takes j))) (λ h. (h .0 .1, λ j l. omega (arith, h .1 j l, lane-takes j))) (partition-means lane (set caps (lane x) (getD caps (lane x) 0 - 1)) s))
 
-  -- a frame without a place has room beside none
+  -- where the lane of x may have no frame, no bag with x is independent
   pub partition-full : (64 ≤ lane x) ⊎ (getD caps (lane x) 0 ≡ 0) → partition lane caps (x ∷ s) ≡ false
   partition-full h = ⊎-elim (λ t. absurd (clash h (partition-means lane caps (x ∷ s) .0 t))) (λ f. f) (cases-bool (partition lane caps (x ∷ s)))
     where

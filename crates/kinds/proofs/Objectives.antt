@@ -1,4 +1,4 @@
--- Each kind of worth is lawful, and fits 32 bits. Assumes nothing.
+-- Each kind of objective is submodular, and its values fit 32 bits. Assumes nothing.
 use mathlib.Core.Path.{_≡_, refl, ap}
 use mathlib.Core.Bool.{Bool, true, false, cond}
 use mathlib.Core.Logic.{⊎-elim}

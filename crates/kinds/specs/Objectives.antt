@@ -1,4 +1,4 @@
--- What a bag of frames is worth, by kind. Assumes nothing.
+-- The value of a bag of frames, by kind. Assumes nothing.
 use mathlib.Core.Bool.{Bool, false, cond, _||_}
 use mathlib.Core.List.{List, [], _∷_, _++_, map}
 use Prim.Native.Nat.{ℕ, suc, _+_, _-_, _*_, _/_, _%_, _^_, _≤_, min, max}
@@ -67,10 +67,10 @@ capped c f s = min c (f s)
 abbrev pub joint : {A : Type 0} → ℕ → (List A → ℕ) → (List A → ℕ) → List A → ℕ
 joint m f g s = min m (f s + g s)
 
--- what is left of f once a is told
+-- what is left of f once the frames a are added
 abbrev pub residual : {A : Type 0} → (List A → ℕ) → List A → List A → ℕ
 residual f a s = f (a ++ s) - f a
 
--- what is left of r once x is told
+-- what is left of r once x is added
 abbrev pub tell : {A : Type 0} → (List A → ℕ) → A → List A → ℕ
 tell r x s = r (x ∷ s) - r (x ∷ [])
