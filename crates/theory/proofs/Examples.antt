@@ -27,7 +27,7 @@ two s = leb (length s) 2
 same-numbers : Same eqb
 same-numbers = record { tells = eqb-true; self = λ x. eq-eqb x x refl }
 
-total-laws : Submodular worth
+total-laws : Submodular total
 total-laws = record {
   nothing = refl;
   order = orderless-after (min 10) (sumBy (λ x. x)) (orderless-sumBy (λ x. x));
