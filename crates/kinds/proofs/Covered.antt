@@ -26,9 +26,9 @@ cond-same : (b : Bool) (n : ℕ) → cond b n n ≡ n
 cond-same true n = refl
 cond-same false n = refl
 
-cond-le : (b : Bool) (n m : ℕ) → n ≤ m → cond b 0 n ≤ m
-cond-le true n m h = omega arith
-cond-le false n m h = h
+cond-le-else : (b : Bool) (n m : ℕ) → n ≤ m → cond b 0 n ≤ m
+cond-le-else true n m h = omega arith
+cond-le-else false n m h = h
 
 length-uncovered : (covered : ℕ) (weights : List ℕ) → length (uncovered covered weights) ≡ length weights
 unfolding uncovered
@@ -59,7 +59,7 @@ module _ {A : Type 0} (marks : A → ℕ) (weights : List ℕ) (limit : (i : ℕ
 
 module _ {A : Type 0} (marks : A → ℕ) (covered : ℕ) (weights : List ℕ) where
   pub uncovered-keeps : ((i : ℕ) → getD weights i 0 ≤ 67108863) → Lawful (coverage marks (uncovered covered weights))
-  uncovered-keeps limit = coverage-keeps marks (uncovered covered weights) (λ i. let low = cond-le (shows covered i) (getD weights i 0) 67108863 (limit i) in omega (arith, low, getD-uncovered covered weights i))
+  uncovered-keeps limit = coverage-keeps marks (uncovered covered weights) (λ i. let low = cond-le-else (shows covered i) (getD weights i 0) 67108863 (limit i) in omega (arith, low, getD-uncovered covered weights i))
 
   -- once x is added its classes are covered too
   pub coverage-added : (x : A) (s : List A) → coverage marks (uncovered covered weights) (x ∷ s) ≡ coverage marks (uncovered (bitOr covered (marks x)) weights) s + coverage marks (uncovered covered weights) (x ∷ [])

@@ -18,7 +18,7 @@ use frames::setting::check_numbers;
 
 const HIGHEST_CAP: u32 = 48;
 
-// No lane has more frames than its cap; a lane above 63 has no frame.
+// Partition matroid: no lane has more frames than its cap, and a lane above 63 has none.
 #[derive(Drop)]
 pub struct PartitionMatroid {
     caps: [u8; 64],
@@ -27,6 +27,7 @@ pub struct PartitionMatroid {
 }
 
 impl PartitionMatroid {
+    // 64 caps, each at most 48.
     pub fn new(caps: &[u32]) -> Result<PartitionMatroid, SettingFault>
         ensures fault { λ r. ⌜ errPart r ≡ numbersFault 64 48 (now (caps .entry)) ⌝ }
         ensures accepted { λ r. ⌜ made r (λ m. m .caps ≡ now (caps .entry)) ⌝ }
@@ -37,7 +38,7 @@ impl PartitionMatroid {
         })
     }
 
-    // Other caps; caps that are refused leave those that were there.
+    // Other caps. Caps that are refused leave those that were there.
     pub fn set(&mut self, caps: &[u32]) -> Result<(), SettingFault>
         ensures fault { λ r. ⌜ errPart r ≡ numbersFault 64 48 (now (caps .entry)) ⌝ }
         ensures after { λ r. ⌜ Cases r (λ _. now (self .exit) .caps ≡ now (caps .entry)) (λ _. now (self .exit) ≡ now (self .entry)) ⌝ }
@@ -77,8 +78,8 @@ fn narrowed(caps: &[u32]) -> [u8; 64]
     bytes
 }
 
-// Whether x has room beside the frames before it, if it is chosen at all. `left` is how many more frames each lane may
-// have, and a chosen frame takes one from its lane.
+// Whether x can be added to the frames before it, where it is chosen at all. `left` is how many more frames each lane
+// may have: a chosen frame takes one from its lane.
 fn takes(left: &mut [u8], x: &Frame, chosen: bool) -> bool
     requires { ⌜ length (now left) ≡ 64 ⌝ }
     ensures { λ r. ⌜ ((s : List FrameOf) → partition (λ y. y .lane) (now (left .entry)) (cond chosen (now (x .entry) ∷ s) s) ≡ (r && partition (λ y. y .lane) (now (left .exit)) s)) ⌝ }

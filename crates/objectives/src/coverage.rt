@@ -14,7 +14,7 @@ use frames::setting::check_numbers;
 
 const HIGHEST_WEIGHT: u32 = 67_108_863;
 
-// Weighted coverage: a list of frames is worth the weights of the classes that any of its frames shows.
+// Weighted coverage: the value of a list of frames is the sum of the weights of the classes that any of them shows.
 #[derive(Drop)]
 pub struct Coverage {
     weights: [u32; 64],
@@ -25,6 +25,7 @@ pub struct Coverage {
 }
 
 impl Coverage {
+    // 64 weights, each at most 67,108,863, with nothing added yet.
     pub fn new(weights: &[u32]) -> Result<Coverage, SettingFault>
         ensures fault { λ r. ⌜ errPart r ≡ numbersFault 64 67108863 (now (weights .entry)) ⌝ }
         ensures accepted { λ r. ⌜ made r (λ c. (c .weights ≡ now (weights .entry)) × (c .covered ≡ 0)) ⌝ }
@@ -38,7 +39,7 @@ impl Coverage {
         })
     }
 
-    // Other weights, with nothing added yet; weights that are refused leave all as it was.
+    // Other weights, as if newly made. Weights that are refused leave all as it was.
     pub fn set(&mut self, weights: &[u32]) -> Result<(), SettingFault>
         ensures fault { λ r. ⌜ errPart r ≡ numbersFault 64 67108863 (now (weights .entry)) ⌝ }
         ensures after { λ r. ⌜ Cases r (λ _. (now (self .exit) .weights ≡ now (weights .entry)) × (now (self .exit) .covered ≡ 0)) (λ _. now (self .exit) ≡ now (self .entry)) ⌝ }
