@@ -1,4 +1,4 @@
--- Room under the caps of boxes, one after another. Assumes nothing.
+-- Caps on boxes, one after another. Assumes nothing.
 use mathlib.Core.Path.{_≡_, refl, sym, ap, ap₂, subst, _∙_}
 use mathlib.Core.Bool.{Bool, true, false, cond, not, _&&_, and-true, and-assoc}
 use mathlib.Core.List.{List, [], _∷_}

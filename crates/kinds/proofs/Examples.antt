@@ -22,7 +22,7 @@ stepped : concave (λ x. x) (9 ∷ replicate 7 0 ++ (6 ∷ 5 ∷ 4 ∷ [])) (1 �
 unfolding concave
 stepped = refl
 
--- nine frames are worth eight steps
+-- nine frames have the value of eight steps
 filled : concave (λ x. x) (replicate 512 1) (replicate 9 3) ≡ 8
 unfolding concave
 filled = refl
@@ -30,7 +30,7 @@ filled = refl
 abbrev pairs : List ℕ
 pairs = 64 ∷ 64 ∷ replicate 94 255
 
--- lanes 0 and 1 stand in box 64, which has room for two; no frame of a lane above 63 has room
+-- lanes 0 and 1 stand in box 64, whose cap is two; a lane above 63 may have no frame
 abbrev room : List ℕ
 room = replicate 64 2 ++ (2 ∷ [])
 

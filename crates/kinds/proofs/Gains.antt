@@ -18,7 +18,7 @@ use Rattle.kinds.specs.Objectives.{some, shows, ofClass, coverage, ofView, fac
 use Rattle.kinds.proofs.Counts.{count-at}
 use Rattle.kinds.proofs.Objectives.{sum-take}
 
-sum-adds : {I : Type 0} (a b c : I → ℕ) → ((i : I) → a i ≡ b i + c i) → (is : List I) → sumBy a is ≡ sumBy b is + sumBy c is
+pub sum-adds : {I : Type 0} (a b c : I → ℕ) → ((i : I) → a i ≡ b i + c i) → (is : List I) → sumBy a is ≡ sumBy b is + sumBy c is
 sum-adds a b c h [] = refl
 sum-adds a b c h (i ∷ is) = omega (arith, h i, sum-adds a b c h is, sumBy-cons a i is, sumBy-cons b i is, sumBy-cons c i is)
 

@@ -1,4 +1,4 @@
--- Room by lanes, and by boxes that hold lanes and one another. Assumes nothing.
+-- The matroids of lanes, and of boxes that hold lanes and one another. Assumes nothing.
 use mathlib.Core.Path.{_≡_, refl, sym, subst}
 use mathlib.Core.Bool.{Bool, true}
 use mathlib.Core.List.{List}

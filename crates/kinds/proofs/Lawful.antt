@@ -1,4 +1,4 @@
--- Ways to make one lawful worth of others. Assumes nothing.
+-- Ways to make one submodular function of others. Assumes nothing.
 use mathlib.Core.Path.{_≡_, refl, sym, ap, subst, fun-ext, _∙_}
 use mathlib.Core.Bool.{Bool, true, false, cond, _||_}
 use mathlib.Core.List.{List, [], _∷_}

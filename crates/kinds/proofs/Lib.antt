@@ -3,6 +3,7 @@ pub mod Lawful
 pub mod Objectives
 pub mod Told
 pub mod Gains
+pub mod Covered
 pub mod Parts
 pub mod Boxes
 pub mod Caps

@@ -1,15 +1,17 @@
--- What the tests of room say, of a bag and of one frame more. Assumes nothing.
+-- What the tests of independence say, of a bag and of one frame more. Assumes nothing.
 use mathlib.Core.Path.{_≡_, refl, sym, ap, subst, _∙_}
 use mathlib.Core.Bool.{Bool, true, false}
 use mathlib.Core.List.{List, [], _∷_}
-use mathlib.Core.Logic.{_↔_, ⊎-elim}
-use Prim.Native.Nat.{ℕ, _≤_, _<_}
+use mathlib.Core.Logic.{_↔_, _⊎_, inl, inr, ⊎-elim}
+use Prim.Native.Nat.{ℕ, _+_, _-_, _≤_, _<_}
 use native.Mathlib.Omega.{arith}
 use lib.Dec.{eqb, ltb, leb}
-use lib.ListN.{getD}
+use lib.ListN.{length, getD, set}
 use Rattle.std.specs.shelf.Lists.{All, countBy}
 use Rattle.std.proofs.shelf.Elements.{all-weaker}
-use Rattle.std.proofs.shelf.Tests.{cases-bool, and-parts, and-from, leb-true, ltb-false, le-ltb, eqb-true, eq-eqb}
+use Rattle.std.proofs.shelf.Lists.{getD-set-same, getD-set-other}
+use Rattle.std.proofs.shelf.Tests.{cases-bool, cases-eq, and-parts, and-from, leb-true, ltb-false, le-ltb, eqb-true, eq-eqb, ne-eqb}
+use Rattle.std.proofs.shelf.Ways.{same-from-decides, decides-like}
 use Rattle.kinds.specs.Matroids.{few, underCaps, inLanes, partition, reaches, laminar}
 use Rattle.kinds.proofs.Counts.{count-at}
 use Rattle.kinds.proofs.Caps.{under-true, under-from}
@@ -23,7 +25,7 @@ none-means p (x ∷ s) = (λ h. ⊎-elim (λ e. absurd (omega (arith, leb-true (
 abbrev pub Roomy : {A : Type 0} → (A → ℕ) → (ℕ → A → Bool) → List ℕ → ℕ → List A → Type 0
 Roomy lane box caps n s = All (λ x. lane x < 64) s × ((j : ℕ) → j < n → countBy (box j) s ≤ getD caps j 0)
 
--- x is of a lane, and each box that it lies in has room
+-- x is of a lane, and each box that it lies in has fewer frames than its cap
 abbrev pub RoomFor : {A : Type 0} → (A → ℕ) → (ℕ → A → Bool) → List ℕ → ℕ → List A → A → Type 0
 RoomFor lane box caps n s x = (lane x < 64) × ((j : ℕ) → j < n → box j x ≡ true → countBy (box j) s < getD caps j 0)
 
@@ -58,6 +60,29 @@ module _ {A : Type 0} (lane : A → ℕ) (caps : List ℕ) where
   partition-more x s h =
       let got = one-more lane (λ l y. eqb (lane y) l) caps 64 x s h in
       (λ k. let r = got .0 k in (r .0, r .1 (lane x) (r .0) (eq-eqb (lane x) (lane x) refl)), λ k. got .1 (k .0, λ j l e. subst (λ i. countBy (λ y. eqb (lane y) i) s < getD caps i 0) (eqb-true (lane x) j e) (k .1)))
+
+module _ {A : Type 0} (lane : A → ℕ) (caps : List ℕ) (x : A) (s : List A) where
+  module _ (inside : lane x < length caps) (place : 0 < getD caps (lane x) 0) where
+    lane-takes : (j : ℕ) → countBy (λ y. eqb (lane y) j) (x ∷ s) + getD (set caps (lane x) (getD caps (lane x) 0 - 1)) j 0 ≡ countBy (λ y. eqb (lane y) j) s + getD caps j 0
+    lane-takes j =
+        ⊎-elim
+        (λ e. omega (arith, count-at (λ y. eqb (lane y) j) x s true (eq-eqb (lane x) j e), ap (λ i. getD (set caps (lane x) (getD caps (lane x) 0 - 1)) i 0) e, getD-set-same caps (lane x) (getD caps (lane x) 0 - 1) 0 inside, ap (λ i. getD caps i 0) e))
+        (λ e. omega (arith, count-at (λ y. eqb (lane y) j) x s false (ne-eqb (lane x) j e), getD-set-other caps (lane x) j (getD caps (lane x) 0 - 1) 0 (λ f. e (sym f))))
+        (cases-eq (lane x) j)
+
+    -- x takes one from the cap of its lane
+    pub partition-takes : lane x < 64 → partition lane caps (x ∷ s) ≡ partition lane (set caps (lane x) (getD caps (lane x) 0 - 1)) s
+    partition-takes low =
+        same-from-decides (partition lane caps (x ∷ s)) (partition lane (set caps (lane x) (getD caps (lane x) 0 - 1)) s) (partition-means lane caps (x ∷ s))
+        (decides-like (partition lane (set caps (lane x) (getD caps (lane x) 0 - 1)) s) (λ h. ((low, h .0), λ j l. omega (arith, h .1 j l, lane-takes j))) (λ h. (h .0 .1, λ j l. omega (arith, h .1 j l, lane-takes j))) (partition-means lane (set caps (lane x) (getD caps (lane x) 0 - 1)) s))
+
+  -- where the lane of x may have no frame, no bag with x is independent
+  pub partition-full : (64 ≤ lane x) ⊎ (getD caps (lane x) 0 ≡ 0) → partition lane caps (x ∷ s) ≡ false
+  partition-full h = ⊎-elim (λ t. absurd (clash h (partition-means lane caps (x ∷ s) .0 t))) (λ f. f) (cases-bool (partition lane caps (x ∷ s)))
+    where
+      clash : (64 ≤ lane x) ⊎ (getD caps (lane x) 0 ≡ 0) → Roomy lane (λ l y. eqb (lane y) l) caps 64 (x ∷ s) → ⊥
+      clash (inl out) r = omega (arith, r .0 .0)
+      clash (inr none) r = omega (arith, r .1 (lane x) (r .0 .0), count-at (λ y. eqb (lane y) (lane x)) x s true (eq-eqb (lane x) (lane x) refl))
 
 module _ {A : Type 0} (lane : A → ℕ) (parents caps : List ℕ) where
   pub laminar-means : (s : List A) → (laminar lane parents caps s ≡ true) ↔ Roomy lane (λ j x. reaches parents 96 (lane x) j) caps 96 s

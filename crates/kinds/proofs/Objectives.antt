@@ -1,4 +1,4 @@
--- Each kind of worth is lawful, and fits 32 bits. Assumes nothing.
+-- Each kind of objective is submodular, and its values fit 32 bits. Assumes nothing.
 use mathlib.Core.Path.{_≡_, refl, ap}
 use mathlib.Core.Bool.{Bool, true, false, cond}
 use mathlib.Core.Logic.{⊎-elim}
@@ -30,12 +30,12 @@ module _ {A : Type 0} (f : ℕ → List A → ℕ) (n : ℕ) where
   below-small : (m : ℕ) → n * m ≤ 4294967295 → ((i : ℕ) (s : List A) → f i s ≤ m) → Bounded (λ s. sumBy (λ i. f i s) (counting 0 n))
   below-small m fits h s = omega (arith, sumBy-le (λ i. f i s) m (counting 0 n) (all-counting (λ i. f i s ≤ m) 0 n (λ i l. h i s)), ap (λ k. k * m) (length-counting 0 n))
 
-getD-le : (m : ℕ) (xs : List ℕ) (i : ℕ) → All (λ x. x ≤ m) xs → getD xs i 0 ≤ m
+pub getD-le : (m : ℕ) (xs : List ℕ) (i : ℕ) → All (λ x. x ≤ m) xs → getD xs i 0 ≤ m
 getD-le m [] i h = omega arith
 getD-le m (x ∷ xs) zero h = h .0
 getD-le m (x ∷ xs) (suc i) h = getD-le m xs i (h .1)
 
-cond-le : (b : Bool) (n m : ℕ) → n ≤ m → cond b n 0 ≤ m
+pub cond-le : (b : Bool) (n m : ℕ) → n ≤ m → cond b n 0 ≤ m
 cond-le true n m h = h
 cond-le false n m h = omega arith
 

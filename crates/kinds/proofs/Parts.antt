@@ -1,4 +1,4 @@
--- The frames that pass a test and the others, and room for the two apart. Assumes nothing.
+-- The frames that pass a test and the others, each independent in a matroid of its own. Assumes nothing.
 use mathlib.Core.Path.{_≡_, refl, sym, ap, ap₂, subst, fun-ext, _∙_}
 use mathlib.Core.Bool.{Bool, true, false, cond, not, _&&_}
 use mathlib.Core.List.{List, [], _∷_, _++_}
@@ -59,7 +59,7 @@ module _ {A : Type 0} {same : A → A → Bool} (eq : Same same) (p : A → Bool
       go true f ih = omega (arith, apart x y false e f)
       go false f ih = ih
 
-  -- of two bags, one with more that passes p: a frame of its that passes p has room directSum what the other has of p, and leaves the rest as it is
+  -- of two bags the one with more that passes p has a frame that passes p and can be added to what the other has of p; the rest stays
   pub part-exchange : {adm : List A → Bool} → MatroidLaws same adm → (q : A → Bool) → ((x : A) → p x ≡ true → q x ≡ false) → (s t : List A) → adm (kept-by p s) ≡ true → adm (kept-by p t) ≡ true → length (kept-by p s) < length (kept-by p t) → (x : A) × (count same x s < count same x t) × (adm (kept-by p (x ∷ s)) ≡ true) × (kept-by q (x ∷ s) ≡ kept-by q s)
   part-exchange {adm} m q other s t hs ht l = let got = m .exchange (kept-by p s) (kept-by p t) hs ht l in from (got .0) (got .1) (got .2)
     where
@@ -71,7 +71,7 @@ module _ {A : Type 0} {same : A → A → Bool} (eq : Same same) (p : A → Bool
           (cases-bool (p x))
 
 module _ {A : Type 0} {same : A → A → Bool} (eq : Same same) {adm other : List A → Bool} (m : MatroidLaws same adm) (n : MatroidLaws same other) (p : A → Bool) where
-  -- what passes p has room in the one, the rest in the other
+  -- what passes p is independent in the one, the rest in the other
   pub parts-matroid : MatroidLaws same (λ s. adm (kept-by p s) && other (kept-by (λ x. not (p x)) s))
   parts-matroid = record {
     nothing = and-from (adm []) (other []) (m .nothing) (n .nothing);

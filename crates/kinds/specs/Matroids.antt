@@ -1,4 +1,4 @@
--- Which bags of frames are admissible, by kind. Assumes nothing.
+-- Which bags of frames are independent, by kind. Assumes nothing.
 use mathlib.Core.Path.{_≡_}
 use mathlib.Core.Bool.{Bool, true, not, _&&_, _||_}
 use mathlib.Core.List.{List}
@@ -17,7 +17,7 @@ abbrev pub underCaps : {A : Type 0} → (ℕ → A → Bool) → (ℕ → ℕ) �
 underCaps box cap zero s = true
 underCaps box cap (suc j) s = underCaps box cap j s && few (box j) (cap j) s
 
--- no frame is of a lane above 63, and the boxes have room
+-- no frame is of a lane above 63, and no box below n has more frames than its cap
 abbrev pub inLanes : {A : Type 0} → (A → ℕ) → (ℕ → A → Bool) → List ℕ → ℕ → List A → Bool
 inLanes lane box caps n s = few (λ x. ltb 63 (lane x)) 0 s && underCaps box (λ j. getD caps j 0) n s
 
@@ -50,6 +50,6 @@ Splits {A} p adm = (s : List A) → adm s ≡ (adm (kept-by p s) && adm (kept-by
 abbrev pub truncated : {A : Type 0} → (List A → Bool) → ℕ → List A → Bool
 truncated adm k s = adm s && leb (length s) k
 
--- the frames of side 0 are admissible to the first, the others to the second
+-- the frames of side 0 are independent in the first, the others in the second
 abbrev pub directSum : {A : Type 0} → (A → ℕ) → (List A → Bool) → (List A → Bool) → List A → Bool
 directSum side adm other s = adm (kept-by (λ x. eqb (side x) 0) s) && other (kept-by (λ x. not (eqb (side x) 0)) s)

@@ -1,9 +1,9 @@
--- What a bag of frames is worth, by kind. Assumes nothing.
+-- The value of a bag of frames, by kind. Assumes nothing.
 use mathlib.Core.Bool.{Bool, false, cond, _||_}
-use mathlib.Core.List.{List, [], _∷_, _++_}
+use mathlib.Core.List.{List, [], _∷_, _++_, map}
 use Prim.Native.Nat.{ℕ, suc, _+_, _-_, _*_, _/_, _%_, _^_, _≤_, min, max}
 use lib.Dec.{eqb}
-use lib.ListN.{getD, take, drop}
+use lib.ListN.{length, getD, take, drop}
 use Rattle.std.specs.Iters.{counting}
 use Rattle.std.specs.shelf.Lists.{sum, sumBy, countBy}
 
@@ -32,6 +32,10 @@ ofClass marks weights i s = cond (some (λ x. shows (marks x) i) s) (getD weight
 -- the weights of the classes that some frame shows
 unfoldable pub coverage : {A : Type 0} → (A → ℕ) → List ℕ → List A → ℕ
 coverage marks weights s = sumBy (λ i. ofClass marks weights i s) (counting 0 64)
+
+-- the weights, with 0 for each class in the set of those covered
+unfoldable pub uncovered : ℕ → List ℕ → List ℕ
+uncovered covered weights = map (λ i. cond (shows covered i) 0 (getD weights i 0)) (counting 0 (length weights))
 
 -- how like view v is the frame that is most like it
 abbrev pub ofView : {A : Type 0} → (A → ℕ) → List ℕ → ℕ → List A → ℕ
@@ -63,10 +67,10 @@ capped c f s = min c (f s)
 abbrev pub joint : {A : Type 0} → ℕ → (List A → ℕ) → (List A → ℕ) → List A → ℕ
 joint m f g s = min m (f s + g s)
 
--- what is left of f once a is told
+-- what is left of f once the frames a are added
 abbrev pub residual : {A : Type 0} → (List A → ℕ) → List A → List A → ℕ
 residual f a s = f (a ++ s) - f a
 
--- what is left of r once x is told
+-- what is left of r once x is added
 abbrev pub tell : {A : Type 0} → (List A → ℕ) → A → List A → ℕ
 tell r x s = r (x ∷ s) - r (x ∷ [])

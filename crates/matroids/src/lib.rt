@@ -1,1 +1,2 @@
 pub mod matroid;
+pub mod partition;

@@ -16,9 +16,9 @@ use Rattle.theory.specs.Promise.{Promised}
 use Rattle.theory.proofs.Orders.{orderless-after, orderless-sumBy, orderless-length, occurs-more}
 use Rattle.theory.proofs.Theorem.{stands}
 
--- a frame is a number, a bag is worth its sum, and ten at most
-abbrev worth : List ℕ → ℕ
-worth s = min 10 (sumBy (λ x. x) s)
+-- a frame is a number, and the value of a bag is its sum, ten at most
+abbrev total : List ℕ → ℕ
+total s = min 10 (sumBy (λ x. x) s)
 
 -- at most two frames
 abbrev two : List ℕ → Bool
@@ -27,8 +27,8 @@ two s = leb (length s) 2
 same-numbers : Same eqb
 same-numbers = record { tells = eqb-true; self = λ x. eq-eqb x x refl }
 
-worth-laws : Submodular worth
-worth-laws = record {
+total-laws : Submodular total
+total-laws = record {
   nothing = refl;
   order = orderless-after (min 10) (sumBy (λ x. x)) (orderless-sumBy (λ x. x));
   more = λ x s. omega (arith, sumBy-cons (λ (y : ℕ). y) x s);
@@ -48,12 +48,12 @@ two-laws = record {
 }
 
 -- 1 and 2 are kept; 5 takes the place of 1; 3 adds 2 and is passed, since twice 2 is more; 9 adds 2 and is passed too
-ran : replay worth two 2 (1 ∷ 2 ∷ 5 ∷ 3 ∷ 9 ∷ []) ≡ record { kept = (5, 5) ∷ (2, 2) ∷ []; accepted = 5 ∷ 2 ∷ 1 ∷ [] }
+ran : replay total two 2 (1 ∷ 2 ∷ 5 ∷ 3 ∷ 9 ∷ []) ≡ record { kept = (5, 5) ∷ (2, 2) ∷ []; accepted = 5 ∷ 2 ∷ 1 ∷ [] }
 ran = refl
 
 -- the lowest of two equal places is taken
-tied : replay worth two 2 (1 ∷ 1 ∷ 4 ∷ []) ≡ record { kept = (4, 4) ∷ (1, 1) ∷ []; accepted = 4 ∷ 1 ∷ 1 ∷ [] }
+tied : replay total two 2 (1 ∷ 1 ∷ 4 ∷ []) ≡ record { kept = (4, 4) ∷ (1, 1) ∷ []; accepted = 4 ∷ 1 ∷ 1 ∷ [] }
 tied = refl
 
-small-case : (arrivals : List ℕ) → Promised worth two 2 arrivals (replay worth two 2 arrivals)
-small-case arrivals = stands ℕ eqb worth two 2 same-numbers worth-laws two-laws arrivals
+small-case : (arrivals : List ℕ) → Promised total two 2 arrivals (replay total two 2 arrivals)
+small-case arrivals = stands ℕ eqb total two 2 same-numbers total-laws two-laws arrivals

@@ -1,4 +1,4 @@
--- What the laws of admissible bags give, of those with at most n frames. Assumes nothing.
+-- What the laws of a matroid give, of the independent bags with at most n frames. Assumes nothing.
 use mathlib.Core.Path.{_≡_, ap, subst, _∙_}
 use mathlib.Core.Bool.{Bool, true, cond}
 use mathlib.Core.List.{List, [], _∷_, _++_}
@@ -13,7 +13,7 @@ use Rattle.theory.specs.Replay.{frames}
 use Rattle.theory.proofs.Bags.{count-removed, rest-of, by-counts, length-within, within-back, one-more, one-self, one-both, within-cons}
 use Rattle.theory.proofs.Heavy.{heavy, heavy-within, light-place}
 
--- admissible, and at most n
+-- independent, and at most n
 abbrev pub Fits : {A : Type 0} → (List A → Bool) → ℕ → List A → Type 0
 Fits adm n s = (adm s ≡ true) × (length s ≤ n)
 

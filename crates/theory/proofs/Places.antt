@@ -1,4 +1,4 @@
--- Distinct places of a arrivals, and the bag of what stands there. Assumes nothing.
+-- Distinct places of the arrivals, and the bag of what stands there. Assumes nothing.
 use mathlib.Core.Path.{_≡_, refl, sym, ap, ap₂, _∙_}
 use mathlib.Core.Bool.{Bool, true, false, cond}
 use mathlib.Core.List.{List, [], _∷_, _++_, map}

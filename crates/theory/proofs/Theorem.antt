@@ -72,7 +72,7 @@ module _ {A : Type 0} {same : A → A → Bool} (eq : Same same) {f : List A →
   pub promised : (arrivals : List A) → Promised f adm n arrivals (replay f adm n arrivals)
   promised arrivals = promised-of arrivals (replay f adm n arrivals) (inv-folded [] start arrivals inv-start)
 
-  -- with a worth that 32 bits hold, at most 32 frames are accepted for each place
+  -- with values that 32 bits hold, at most 32 frames are accepted for each place
   pub took-few : ((s : List A) → f s ≤ 4294967295) → (arrivals : List A) (st : State A) → Promised f adm n arrivals st → length (st .accepted) ≤ 32 * n
   took-few small arrivals st p =
       let low = bounded (λ (e : A × ℕ). e .1) (st .kept) 4294967295 (omega (arith, p .earned, small (frames (st .kept)))) in

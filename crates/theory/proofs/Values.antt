@@ -1,4 +1,4 @@
--- What the laws of a worth give. Assumes nothing.
+-- What the laws of an objective give. Assumes nothing.
 use mathlib.Core.Path.{_≡_, refl, sym, ap, subst, _∙_}
 use mathlib.Core.Bool.{Bool, true, false, cond}
 use mathlib.Core.List.{List, [], _∷_, _++_}
@@ -12,7 +12,7 @@ use Rattle.theory.specs.Laws.{Submodular}
 use Rattle.theory.specs.Replay.{frames}
 use Rattle.theory.proofs.Bags.{count-append, rest-of, by-counts}
 
--- each part of the entries, with c beside it, is worth at least its gains and v
+-- each part of the entries, with c beside it, has a value of at least its gains and v
 abbrev pub Earns : {A : Type 0} → (List A → ℕ) → List (A × ℕ) → List A → ℕ → Type 0
 Earns f [] c v = v ≤ f c
 Earns f (e ∷ es) c v = Earns f es c v × Earns f es (e .0 ∷ c) (e .1 + v)
@@ -77,6 +77,6 @@ module _ {A : Type 0} {same : A → A → Bool} (eq : Same same) {f : List A →
         worth-alike (frames es ++ (e .0 ∷ c)) (e .0 ∷ (frames es ++ c)) (λ z. omega (arith, count-append same z (frames es) c, count-append same z (frames es) (e .0 ∷ c))),
       )
 
-  -- the gains together are no more than the worth of the frames
+  -- the gains together are no more than the value of the frames
   pub earned : (es : List (A × ℕ)) → Earns f es [] 0 → sumBy (λ e. e .1) es ≤ f (frames es)
   earned es h = omega (arith, earns-all es [] 0 h, worth-alike (frames es ++ []) (frames es) (λ z. omega (arith, count-append same z (frames es) [])))

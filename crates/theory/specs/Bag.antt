@@ -34,6 +34,6 @@ abbrev pub Distinct : List ℕ → Type 0
 Distinct [] = Unit {0}
 Distinct (p ∷ ps) = All (λ q. q ≢ p) ps × Distinct ps
 
--- at the places ps, which are distinct, arrivals has the elements of s
+-- at the places ps, which are distinct, the arrivals have the elements of s
 abbrev pub Drawn : {A : Type 0} → List A → List ℕ → List A → Type 0
 Drawn arrivals ps s = Distinct ps × (map (nth arrivals) ps ≡ map Some s)

@@ -1,4 +1,4 @@
--- What a replay promises of every arrivals. Assumes nothing.
+-- What a replay promises, whatever the arrivals. Assumes nothing.
 use mathlib.Core.Path.{_≡_}
 use mathlib.Core.Bool.{Bool, true}
 use mathlib.Core.List.{List, [], _∷_}
@@ -23,7 +23,7 @@ pub record Promised {A : Type 0} (f : List A → ℕ) (adm : List A → Bool) (n
   pub admitted : adm (frames (st .kept)) ≡ true
   pub few : length (st .kept) ≤ n
   pub drawn : (ps : List ℕ) × Drawn arrivals ps (frames (st .kept))
-  -- no admissible choice of at most n places is worth more than four times what is kept
+  -- no independent choice of at most n places has more than four times the value of what is kept
   pub quarter : (ps : List ℕ) (c : List A) → Drawn arrivals ps c → length ps ≤ n → adm c ≡ true → f c ≤ 4 * f (frames (st .kept))
   pub took : length (st .accepted) ≤ sumBy (λ e. binaryLength (e .1)) (st .kept)
   pub tells : told f (st .accepted) ≡ f (st .accepted)

@@ -1,4 +1,4 @@
--- The replay: each frame of a arrivals is offered once, and is kept, takes a kept frame's place, or is passed. Assumes nothing.
+-- The replay: each frame of the arrivals is offered once, and is kept, takes a kept frame's place, or is passed. Assumes nothing.
 use mathlib.Core.Bool.{Bool, cond, _&&_}
 use mathlib.Core.List.{List, [], _∷_, _++_, map}
 use Prim.Native.Nat.{ℕ, suc, _-_, _*_}
@@ -29,7 +29,7 @@ abbrev pub lightest : (ℕ → Bool) → List ℕ → Option ℕ
 lightest counts [] = None
 lightest counts (g ∷ gs) = lighter (counts 0) g gs (lightest (λ p. counts (suc p)) gs)
 
--- what x adds to the worth of what was accepted
+-- what x adds to the value of what was accepted
 abbrev pub gainOf : {A : Type 0} → (List A → ℕ) → State A → A → ℕ
 gainOf f st x = f (x ∷ st .accepted) - f (st .accepted)
 
