@@ -1,0 +1,6 @@
+mod digits;
+pub mod entry;
+mod fault;
+mod line;
+pub mod print;
+mod sheet;

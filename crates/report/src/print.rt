@@ -1,0 +1,29 @@
+ghost use Rattle.records.specs.Format.{shown};
+ghost use Rattle.records.specs.Sheets.{Printed};
+ghost use Rattle.report.specs.Digest.{digest, faultLines};
+use crate::entry::Counts;
+use crate::entry::Entry;
+use frames::frame::Frame;
+use frames::refusal::Refusal;
+use records::fault::TextFault;
+
+// Writes the record of `x` at the front of `out`, and answers its length.
+pub fn print_record(x: &Frame, out: &mut [u8]) -> Result<usize, Refusal>
+    ensures { λ r. ⌜ Printed (shown (now (x .entry))) (now (out .entry)) (now (out .exit)) r ⌝ }
+{
+    Err(Refusal::ShortSheet)
+}
+
+// Writes the digest at the front of `out`, and answers its length.
+pub fn print_digest(counts: &Counts, kept: &[Entry], out: &mut [u8]) -> Result<usize, Refusal>
+    ensures { λ r. ⌜ Printed (digest (now (counts .entry)) (now (kept .entry))) (now (out .entry)) (now (out .exit)) r ⌝ }
+{
+    Err(Refusal::ShortSheet)
+}
+
+// Writes the lines of `fault` at the front of `out`, and answers their length.
+pub fn print_fault(fault: &TextFault, out: &mut [u8]) -> Result<usize, Refusal>
+    ensures { λ r. ⌜ Printed (faultLines (now (fault .entry))) (now (out .entry)) (now (out .exit)) r ⌝ }
+{
+    Err(Refusal::ShortSheet)
+}
