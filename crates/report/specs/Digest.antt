@@ -20,9 +20,13 @@ countLines c =
     decimalLine (codes "size=") (c .size) ++ (decimalLine (codes "kept=") (c .kept) ++ (decimalLine (codes "took=") (c .took)
     ++ (decimalLine (codes "seen=") (c .seen) ++ (decimalLine (codes "gain=") (c .gain) ++ decimalLine (codes "told=") (c .told)))))
 
--- a place, the gain there, and the record of the frame there
+-- a place, and the gain there
+abbrev pub headingLines : ℕ → Entry → List ℕ
+headingLines i e = decimalLine (codes "place=") i ++ decimalLine (codes "worth=") (e .gain)
+
+-- the same, and the record of the frame there
 abbrev pub placeLines : ℕ → Entry → List ℕ
-placeLines i e = decimalLine (codes "place=") i ++ (decimalLine (codes "worth=") (e .gain) ++ shown (e .frame))
+placeLines i e = headingLines i e ++ shown (e .frame)
 
 -- the places from i on
 abbrev pub placesFrom : ℕ → List Entry → List ℕ

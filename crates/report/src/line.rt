@@ -2,7 +2,7 @@ ghost use mathlib.Core.Path.{_≡_};
 ghost use Rattle.frames.specs.Refusals.{numberOf};
 ghost use Rattle.records.specs.Faults.{textRefusal, textSpot};
 ghost use Rattle.records.specs.Format.{hexadecimal, shown};
-ghost use Rattle.report.specs.Digest.{decimalLine, countLines, placeLines, faultLines};
+ghost use Rattle.report.specs.Digest.{decimalLine, countLines, headingLines, faultLines};
 ghost use Rattle.report.specs.Lines.{lineText, linesText};
 use crate::entry::Counts;
 use crate::entry::Entry;

@@ -3,6 +3,8 @@ ghost use Rattle.records.specs.Sheets.{Printed};
 ghost use Rattle.report.specs.Digest.{digest, faultLines};
 use crate::entry::Counts;
 use crate::entry::Entry;
+use crate::line;
+use crate::sheet;
 use frames::frame::Frame;
 use frames::refusal::Refusal;
 use records::fault::TextFault;
@@ -11,19 +13,27 @@ use records::fault::TextFault;
 pub fn print_record(x: &Frame, out: &mut [u8]) -> Result<usize, Refusal>
     ensures { λ r. ⌜ Printed (shown (now (x .entry))) (now (out .entry)) (now (out .exit)) r ⌝ }
 {
-    Err(Refusal::ShortSheet)
+    sheet::print_lines(&line::record_lines(x), out)
 }
 
 // Writes the digest at the front of `out`, and answers its length.
 pub fn print_digest(counts: &Counts, kept: &[Entry], out: &mut [u8]) -> Result<usize, Refusal>
     ensures { λ r. ⌜ Printed (digest (now (counts .entry)) (now (kept .entry))) (now (out .entry)) (now (out .exit)) r ⌝ }
 {
-    Err(Refusal::ShortSheet)
+    let head = line::count_lines(counts);
+    let Some(room) = sheet::room_after(&head, out.len()) else {
+        return Err(Refusal::ShortSheet);
+    };
+    if sheet::room_after_places(kept, room).is_none() {
+        return Err(Refusal::ShortSheet);
+    }
+    let at = sheet::put_lines(&head, out);
+    Ok(at + sheet::put_places(kept, &mut out[at..]))
 }
 
 // Writes the lines of `fault` at the front of `out`, and answers their length.
 pub fn print_fault(fault: &TextFault, out: &mut [u8]) -> Result<usize, Refusal>
     ensures { λ r. ⌜ Printed (faultLines (now (fault .entry))) (now (out .entry)) (now (out .exit)) r ⌝ }
 {
-    Err(Refusal::ShortSheet)
+    sheet::print_lines(&line::fault_lines(fault), out)
 }
