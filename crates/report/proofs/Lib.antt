@@ -1,2 +1,4 @@
 pub mod Numerals
 pub mod Pieces
+pub mod Rooms
+pub mod Texts

@@ -11,6 +11,7 @@ use Rattle.std.proofs.shelf.Lists.{append-assoc, drop-set, length-push}
 use Rattle.std.proofs.shelf.Tests.{lt-ltb, cond-true}
 use Rattle.std.specs.Written.{decimal}
 use Rattle.records.specs.Format.{hexDigit, hexDigits, hexadecimal}
+use Rattle.records.specs.Sheets.{over}
 use Rattle.report.specs.Lines.{lastDigits}
 
 pub length-decimal-digit : (n : ℕ) → n < 10 → length (decimal n) ≡ 1
@@ -71,3 +72,14 @@ last-step b (suc k) rest d out some fits e =
     let set : drop k (set out k d) ≡ d ∷ drop (suc k) out = drop-set out k d low ∙ ap (λ j. d ∷ drop j out) (add-one k) in
     let joins : (ds ++ (digit ∷ [])) ++ drop (suc k) out ≡ ds ++ (digit ∷ drop (suc k) out) = append-assoc ds (digit ∷ []) (drop (suc k) out) in
     rw p (cc (set, joins, e))
+
+-- the digits as a text
+pub decimal-over : (n len : ℕ) (xs : List ℕ) → n < 2 ^ 64 → len ≡ length (decimal n) → lastDigits 10 len n ++ drop len xs ≡ over (decimal n) xs
+decimal-over n len xs b is =
+    ap (λ k. lastDigits 10 k n ++ drop k xs) is ∙ ap (λ ds. ds ++ drop (length (decimal n)) xs) (sym (decimal-last n b))
+
+pub hexadecimal-over : (n len : ℕ) (xs : List ℕ) → len ≡ length (hexadecimal n) → lastDigits 16 len n ++ drop len xs ≡ over (hexadecimal n) xs
+hexadecimal-over n len xs is =
+    let sixteen : len ≡ 16 = is ∙ length-hexadecimal n in
+    ap (λ k. lastDigits 16 k n ++ drop k xs) sixteen ∙ ap (λ ds. ds ++ drop 16 xs) (sym (hexadecimal-last n))
+    ∙ ap (λ k. hexadecimal n ++ drop k xs) (sym (length-hexadecimal n))

@@ -12,8 +12,12 @@ abbrev pub written : Form → ℕ → List ℕ
 written Decimal n = decimal n
 written Hexadecimal n = hexadecimal n
 
+-- a value and the line feed behind it
+abbrev pub valueText : Form → ℕ → List ℕ
+valueText f n = written f n ++ (10 ∷ [])
+
 abbrev pub lineText : Line → List ℕ
-lineText l = l .key .now ++ (written (l .form) (l .value) ++ (10 ∷ []))
+lineText l = l .key .now ++ valueText (l .form) (l .value)
 
 -- the last k digits of n to the base b
 abbrev pub lastDigits : ℕ → ℕ → ℕ → List ℕ

@@ -4,7 +4,7 @@ ghost use lib.ListN.{length};
 ghost use Rattle.std.specs.Numbers.{Checked};
 ghost use Rattle.records.specs.Sheets.{over, Printed};
 ghost use Rattle.report.specs.Digest.{placeLines, placesFrom};
-ghost use Rattle.report.specs.Lines.{written, lineText, linesText};
+ghost use Rattle.report.specs.Lines.{written, valueText, lineText, linesText};
 use crate::digits;
 use crate::entry::Entry;
 use crate::line;
@@ -41,18 +41,30 @@ pub(crate) fn room_after(lines: &[Line], room: usize) -> Option<usize>
     Some(left)
 }
 
-// Writes a value at the front of `out`, and answers its length.
+// Writes `bytes` at the front of `out`, and answers their number.
+fn put_bytes(bytes: &[u8], out: &mut [u8]) -> usize
+    requires { ⌜ length (now bytes) ≤ length (now out) ⌝ }
+    ensures len { λ r. ⌜ r ≡ length (now (bytes .entry)) ⌝ }
+    ensures after { λ _. ⌜ now (out .exit) ≡ over (now (bytes .entry)) (now (out .entry)) ⌝ }
+{
+    let len = bytes.len();
+    out[0..len].copy_from_slice(bytes);
+    len
+}
+
+// Writes a value and its line feed at the front of `out`, and answers their length.
 fn put_value(form: Form, value: u64, out: &mut [u8]) -> usize
-    requires { ⌜ length (written form value) ≤ length (now out) ⌝ }
-    ensures len { λ r. ⌜ r ≡ length (written form value) ⌝ }
-    ensures after { λ _. ⌜ now (out .exit) ≡ over (written form value) (now (out .entry)) ⌝ }
+    requires { ⌜ length (valueText form value) ≤ length (now out) ⌝ }
+    ensures len { λ r. ⌜ r ≡ length (valueText form value) ⌝ }
+    ensures after { λ _. ⌜ now (out .exit) ≡ over (valueText form value) (now (out .entry)) ⌝ }
 {
     let len = value_len(form, value);
     match form {
         Form::Decimal => digits::put_digits(value, 10, len, out),
         Form::Hexadecimal => digits::put_digits(value, 16, len, out),
     }
-    len
+    out[len] = b'\n';
+    len + 1
 }
 
 // Writes `line` at the front of `out`, and answers its length.
@@ -61,11 +73,8 @@ fn put_line(line: &Line, out: &mut [u8]) -> usize
     ensures len { λ r. ⌜ r ≡ length (lineText (now (line .entry))) ⌝ }
     ensures after { λ _. ⌜ now (out .exit) ≡ over (lineText (now (line .entry))) (now (out .entry)) ⌝ }
 {
-    let key = line.key.len();
-    out[0..key].copy_from_slice(line.key);
-    let at = key + put_value(line.form, line.value, &mut out[key..]);
-    out[at] = b'\n';
-    at + 1
+    let at = put_bytes(line.key, out);
+    at + put_value(line.form, line.value, &mut out[at..])
 }
 
 // Writes `lines` at the front of `out`, and answers their length.
@@ -92,11 +101,11 @@ pub(crate) fn print_lines(lines: &[Line], out: &mut [u8]) -> Result<usize, Refus
 }
 
 // What is left of `room` bytes behind the lines of the kept frames, if they fit.
-pub(crate) fn room_after_places(kept: &[Entry], room: usize) -> Option<usize>
-    ensures { λ r. ⌜ Checked r (length (placesFrom 0 (now (kept .entry))) ≤ room) (room - length (placesFrom 0 (now (kept .entry)))) ⌝ }
+pub(crate) fn room_after_places(entries: &[Entry], room: usize) -> Option<usize>
+    ensures { λ r. ⌜ Checked r (length (placesFrom 0 (now (entries .entry))) ≤ room) (room - length (placesFrom 0 (now (entries .entry)))) ⌝ }
 {
     let mut left = room;
-    for (place, entry) in kept.iter().enumerate() {
+    for (place, entry) in entries.iter().enumerate() {
         left = room_after_place(place, entry, left)?;
     }
     Some(left)
@@ -120,13 +129,13 @@ fn put_place(place: usize, entry: &Entry, out: &mut [u8]) -> usize
 }
 
 // Writes the lines of the kept frames at the front of `out`, and answers their length.
-pub(crate) fn put_places(kept: &[Entry], out: &mut [u8]) -> usize
-    requires { ⌜ length (placesFrom 0 (now kept)) ≤ length (now out) ⌝ }
-    ensures len { λ r. ⌜ r ≡ length (placesFrom 0 (now (kept .entry))) ⌝ }
-    ensures after { λ _. ⌜ now (out .exit) ≡ over (placesFrom 0 (now (kept .entry))) (now (out .entry)) ⌝ }
+pub(crate) fn put_places(entries: &[Entry], out: &mut [u8]) -> usize
+    requires { ⌜ length (placesFrom 0 (now entries)) ≤ length (now out) ⌝ }
+    ensures len { λ r. ⌜ r ≡ length (placesFrom 0 (now (entries .entry))) ⌝ }
+    ensures after { λ _. ⌜ now (out .exit) ≡ over (placesFrom 0 (now (entries .entry))) (now (out .entry)) ⌝ }
 {
     let mut at = 0;
-    for (place, entry) in kept.iter().enumerate() {
+    for (place, entry) in entries.iter().enumerate() {
         at += put_place(place, entry, &mut out[at..]);
     }
     at

@@ -5,4 +5,4 @@ use Rattle.report.specs.Digest.{placesFrom}
 use Rattle.report.proofs.sheet.room_after_places.Given as given
 
 abbrev pub Inv-loop-place : given.InvT-loop-place
-Inv-loop-place l = l .entry .left + length (placesFrom (l .place) (drop (l .place) (l .kept))) ≡ l .left + length (placesFrom 0 (l .kept))
+Inv-loop-place l = l .entry .left + length (placesFrom (l .place) (drop (l .place) (l .entries))) ≡ l .left + length (placesFrom 0 (l .entries))
