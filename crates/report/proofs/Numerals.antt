@@ -62,7 +62,7 @@ length-hexadecimal n = ap length (hexadecimal-last n) ∙ length-lastDigits 16 1
 
 -- one digit written in front of those behind it
 pub last-step : (b i rest d : ℕ) (out : List ℕ) → 0 < i → i ≤ length out → d ≡ hexDigit (rest % b)
-  → lastDigits b (i - 1) (rest / b) ++ drop (i - 1) (set out (i - 1) d) ≡ lastDigits b i rest ++ drop i out
+    → lastDigits b (i - 1) (rest / b) ++ drop (i - 1) (set out (i - 1) d) ≡ lastDigits b i rest ++ drop i out
 last-step b zero rest d out some fits e = absurd (omega arith)
 last-step b (suc k) rest d out some fits e =
     let p : suc k - 1 ≡ k = omega arith in

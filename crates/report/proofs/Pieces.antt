@@ -45,7 +45,7 @@ left-first s rest out xs n h e is =
 
 -- the rest of the buffer has room for the next text
 pub left-room : (whole r t rest : List ℕ) (at : ℕ) (out before : List ℕ) → r ≡ t ++ rest → Left whole r at out before
-  → length t ≤ length (take (length out - at) (drop at out))
+    → length t ≤ length (take (length out - at) (drop at out))
 left-room whole r t rest at out before e l =
     let all : length (take (length out - at) (drop at out)) ≡ length out - at = ap length (take-rest out at) ∙ length-drop at out in
     omega (arith, ap length e ∙ length-append t rest)
@@ -55,7 +55,7 @@ left-sum whole r t rest at n out before e l is = omega (arith, ap length e ∙ l
 
 -- t in the rest of the buffer
 put-is : (t : List ℕ) (at : ℕ) (out part : List ℕ) → at ≤ length out → part ≡ over t (take (length out - at) (drop at out))
-  → putMid at (length out - at) out part ≡ (take at out ++ t) ++ drop (length t) (drop at out)
+    → putMid at (length out - at) out part ≡ (take at out ++ t) ++ drop (length t) (drop at out)
 put-is t at out part h e =
     let ys = drop at out in
     let n = length out - at in
@@ -66,8 +66,8 @@ put-is t at out part h e =
 
 -- one more text
 pub left-more : (whole r t rest : List ℕ) (at n : ℕ) (out part before : List ℕ) → r ≡ t ++ rest → Left whole r at out before
-  → part ≡ over t (take (length out - at) (drop at out)) → n ≡ length t
-  → Left whole rest (at + n) (putMid at (length out - at) out part) before
+    → part ≡ over t (take (length out - at) (drop at out)) → n ≡ length t
+    → Left whole rest (at + n) (putMid at (length out - at) out part) before
 left-more whole r t rest at n out part before e l p is =
     let split : length r ≡ length t + length rest = ap length e ∙ length-append t rest in
     let low : at ≤ length out = omega arith in
@@ -95,8 +95,8 @@ left-all whole r at out before e l =
 
 -- the last text
 pub left-last : (whole t : List ℕ) (at n : ℕ) (out part before : List ℕ) → Left whole t at out before
-  → part ≡ over t (take (length out - at) (drop at out)) → n ≡ length t
-  → (at + n ≡ length whole) × (putMid at (length out - at) out part ≡ over whole before)
+    → part ≡ over t (take (length out - at) (drop at out)) → n ≡ length t
+    → (at + n ≡ length whole) × (putMid at (length out - at) out part ≡ over whole before)
 left-last whole t at n out part before l p is =
     left-all whole [] (at + n) (putMid at (length out - at) out part) before refl
     (left-more whole t t [] at n out part before (sym (append-nil t)) l p is)

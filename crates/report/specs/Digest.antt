@@ -15,18 +15,14 @@ abbrev pub decimalLine : List ℕ → ℕ → List ℕ
 decimalLine key n = key ++ (decimal n ++ (10 ∷ []))
 
 -- the six counts
-abbrev pub countLines : Counts → List ℕ
+unfoldable pub countLines : Counts → List ℕ
 countLines c =
     decimalLine (codes "size=") (c .size) ++ (decimalLine (codes "kept=") (c .kept) ++ (decimalLine (codes "took=") (c .took)
     ++ (decimalLine (codes "seen=") (c .seen) ++ (decimalLine (codes "gain=") (c .gain) ++ decimalLine (codes "told=") (c .told)))))
 
--- a place, and the gain there
-abbrev pub headingLines : ℕ → Entry → List ℕ
-headingLines i e = decimalLine (codes "place=") i ++ decimalLine (codes "worth=") (e .gain)
-
--- the same, and the record of the frame there
-abbrev pub placeLines : ℕ → Entry → List ℕ
-placeLines i e = headingLines i e ++ shown (e .frame)
+-- a place, the gain there, and the record of the frame there
+unfoldable pub placeLines : ℕ → Entry → List ℕ
+placeLines i e = decimalLine (codes "place=") i ++ (decimalLine (codes "worth=") (e .gain) ++ shown (e .frame))
 
 -- the places from i on
 abbrev pub placesFrom : ℕ → List Entry → List ℕ
@@ -38,7 +34,7 @@ unfoldable pub digest : Counts → List Entry → List ℕ
 digest c es = countLines c ++ placesFrom 0 es
 
 -- why and where a text stopped
-abbrev pub faultLines : TextFault → List ℕ
+unfoldable pub faultLines : TextFault → List ℕ
 faultLines f =
     decimalLine (codes "fault=") (numberOf (textRefusal f)) ++ (decimalLine (codes "record=") (textSpot f .«record»)
     ++ (decimalLine (codes "line=") (textSpot f .line) ++ decimalLine (codes "byte=") (textSpot f .byte)))

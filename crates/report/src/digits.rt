@@ -25,7 +25,11 @@ fn digit_byte(digit: u8) -> u8
     requires { ⌜ digit ≤ 15 ⌝ }
     ensures { λ r. ⌜ r ≡ hexDigit digit ⌝ }
 {
-    if digit < 10 { b'0' + digit } else { b'a' + (digit - 10) }
+    if digit < 10 {
+        b'0' + digit
+    } else {
+        b'a' + (digit - 10)
+    }
 }
 
 // Writes the last `len` digits of `n` to the base `base` at the front of `out`.

@@ -43,7 +43,15 @@ pub(crate) fn text_spot(fault: &TextFault) -> Spot
 {
     match fault {
         TextFault::Record(RecordFault::Line(line)) => line_spot(line),
-        TextFault::Record(RecordFault::ShiftFull { record, byte }) => Spot { record: *record, line: 0, byte: *byte },
-        TextFault::LongText => Spot { record: 0, line: 0, byte: 0 },
+        TextFault::Record(RecordFault::ShiftFull { record, byte }) => Spot {
+            record: *record,
+            line: 0,
+            byte: *byte,
+        },
+        TextFault::LongText => Spot {
+            record: 0,
+            line: 0,
+            byte: 0,
+        },
     }
 }

@@ -1,8 +1,9 @@
 ghost use mathlib.Core.Path.{_≡_};
+ghost use lib.ListN.{length};
 ghost use Rattle.frames.specs.Refusals.{numberOf};
 ghost use Rattle.records.specs.Faults.{textRefusal, textSpot};
 ghost use Rattle.records.specs.Format.{hexadecimal, shown};
-ghost use Rattle.report.specs.Digest.{decimalLine, countLines, headingLines, faultLines};
+ghost use Rattle.report.specs.Digest.{decimalLine, countLines, placeLines, faultLines};
 ghost use Rattle.report.specs.Lines.{lineText, linesText};
 use crate::entry::Counts;
 use crate::entry::Entry;
@@ -28,15 +29,24 @@ pub(crate) struct Line<'a> {
 fn decimal(key: &'static [u8], value: u64) -> Line<'static>
     ensures { λ r. ⌜ lineText r ≡ decimalLine (now (key .entry)) value ⌝ }
 {
-    Line { key, form: Form::Decimal, value }
+    Line {
+        key,
+        form: Form::Decimal,
+        value,
+    }
 }
 
 pub(crate) fn record_lines(x: &Frame) -> [Line<'static>; 7]
-    ensures { λ r. ⌜ linesText r ≡ shown (now (x .entry)) ⌝ }
+    ensures len { λ r. ⌜ length r ≡ 7 ⌝ }
+    ensures text { λ r. ⌜ linesText r ≡ shown (now (x .entry)) ⌝ }
 {
     [
         decimal(b"frame=", x.number as u64),
-        Line { key: b"marks=", form: Form::Hexadecimal, value: x.marks },
+        Line {
+            key: b"marks=",
+            form: Form::Hexadecimal,
+            value: x.marks,
+        },
         decimal(b"look=", x.look as u64),
         decimal(b"lane=", x.lane as u64),
         decimal(b"tail=", x.tail as u64),
@@ -58,13 +68,20 @@ pub(crate) fn count_lines(counts: &Counts) -> [Line<'static>; 6]
     ]
 }
 
-// The two lines before a kept frame's record.
-pub(crate) fn heading_lines(place: usize, entry: &Entry) -> [Line<'static>; 2]
-    ensures { λ r. ⌜ linesText r ≡ headingLines place (now (entry .entry)) ⌝ }
+pub(crate) fn place_lines(place: usize, entry: &Entry) -> [Line<'static>; 9]
+    ensures { λ r. ⌜ linesText r ≡ placeLines place (now (entry .entry)) ⌝ }
 {
+    let [number, marks, look, lane, tail, head, side] = record_lines(&entry.frame);
     [
         decimal(b"place=", place as u64),
         decimal(b"worth=", entry.gain as u64),
+        number,
+        marks,
+        look,
+        lane,
+        tail,
+        head,
+        side,
     ]
 }
 

@@ -3,7 +3,7 @@ ghost use Prim.Native.Nat.{_-_, _≤_};
 ghost use lib.ListN.{length};
 ghost use Rattle.std.specs.Numbers.{Checked};
 ghost use Rattle.records.specs.Sheets.{over, Printed};
-ghost use Rattle.report.specs.Digest.{placeLines, placesFrom};
+ghost use Rattle.report.specs.Digest.{placesFrom};
 ghost use Rattle.report.specs.Lines.{written, valueText, lineText, linesText};
 use crate::digits;
 use crate::entry::Entry;
@@ -106,26 +106,9 @@ pub(crate) fn room_after_places(entries: &[Entry], room: usize) -> Option<usize>
 {
     let mut left = room;
     for (place, entry) in entries.iter().enumerate() {
-        left = room_after_place(place, entry, left)?;
+        left = room_after(&line::place_lines(place, entry), left)?;
     }
     Some(left)
-}
-
-fn room_after_place(place: usize, entry: &Entry, room: usize) -> Option<usize>
-    ensures { λ r. ⌜ Checked r (length (placeLines place (now (entry .entry))) ≤ room) (room - length (placeLines place (now (entry .entry)))) ⌝ }
-{
-    let left = room_after(&line::heading_lines(place, entry), room)?;
-    room_after(&line::record_lines(&entry.frame), left)
-}
-
-// Writes the lines of a kept frame at the front of `out`, and answers their length.
-fn put_place(place: usize, entry: &Entry, out: &mut [u8]) -> usize
-    requires { ⌜ length (placeLines place (now entry)) ≤ length (now out) ⌝ }
-    ensures len { λ r. ⌜ r ≡ length (placeLines place (now (entry .entry))) ⌝ }
-    ensures after { λ _. ⌜ now (out .exit) ≡ over (placeLines place (now (entry .entry))) (now (out .entry)) ⌝ }
-{
-    let at = put_lines(&line::heading_lines(place, entry), out);
-    at + put_lines(&line::record_lines(&entry.frame), &mut out[at..])
 }
 
 // Writes the lines of the kept frames at the front of `out`, and answers their length.
@@ -136,7 +119,7 @@ pub(crate) fn put_places(entries: &[Entry], out: &mut [u8]) -> usize
 {
     let mut at = 0;
     for (place, entry) in entries.iter().enumerate() {
-        at += put_place(place, entry, &mut out[at..]);
+        at += put_lines(&line::place_lines(place, entry), &mut out[at..]);
     }
     at
 }

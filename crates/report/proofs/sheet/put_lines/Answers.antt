@@ -22,7 +22,7 @@ add-at c =
     let ls = c .args .lines .now in
     let l = c .loop-line in
     let sum = left-sum (linesText ls) _ (lineText (getD ls (l .line-index) noLine)) (linesText (drop (l .line-index + 1) ls)) (l .at) (c .put-line-at .result)
-        (l .out) (c .args .out .now) (lines-more ls (l .line-index) (c .loop-line-test .taken)) (l .inv) (c .put-line-at .ensures .len) in
+    (l .out) (c .args .out .now) (lines-more ls (l .line-index) (c .loop-line-test .taken)) (l .inv) (c .put-line-at .ensures .len) in
     omega arith
 
 pub loop-line-again : need.loop-line-again

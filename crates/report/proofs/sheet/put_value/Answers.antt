@@ -30,11 +30,11 @@ digits c =
     let xs = c .args .out .now in
     let len = c .value-len-len in
     elim (c .match-form .came) [
-      in-Decimal w ↦
+      | in-Decimal w ↦
           w .out-is ∙ w .put-digits .ensures
           ∙ decimal-over n (len .result) xs (omega arith) (len .ensures ∙ ap (λ f. length (written f n)) (w .in-Decimal .is))
           ∙ ap (λ f. over (written f n) xs) (sym (w .in-Decimal .is))
-    | in-Hexadecimal w ↦
+      | in-Hexadecimal w ↦
           w .out-is ∙ w .put-digits-in-Hexadecimal .ensures
           ∙ hexadecimal-over n (len .result) xs (len .ensures ∙ ap (λ f. length (written f n)) (w .in-Hexadecimal .is))
           ∙ ap (λ f. over (written f n) xs) (sym (w .in-Hexadecimal .is))
