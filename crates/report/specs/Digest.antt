@@ -1,7 +1,9 @@
 -- What the product prints besides a frame's record. Assumes nothing.
 use mathlib.Core.List.{List, [], _∷_, _++_}
-use Prim.Native.Nat.{ℕ, _+_}
+use mathlib.Core.Path.{_≡_}
+use Prim.Native.Nat.{ℕ, _+_, _<_}
 use lib.Chars.{codes}
+use lib.ListN.{length, getD, take}
 use Rattle.std.specs.Written.{decimal}
 use Rattle.frames.specs.Refusals.{numberOf}
 use Rattle.records.specs.declared.fault.TextFault.{TextFault}
@@ -32,6 +34,16 @@ placesFrom i (e ∷ es) = placeLines i e ++ placesFrom (i + 1) es
 -- the counts, then each place
 unfoldable pub digest : Counts → List Entry → List ℕ
 digest c es = countLines c ++ placesFrom 0 es
+
+-- `whole` is `front` and then the three parts of the place i: the line of i, the line of the gain there, and the record of
+-- the frame there
+pub record PlaceBehind (front whole : List ℕ) (i : ℕ) (e : Entry) : Type 0 where
+  pub back : List ℕ
+  pub parts : whole ≡ front ++ (decimalLine (codes "place=") i ++ (decimalLine (codes "worth=") (e .gain) ++ (shown (e .frame) ++ back)))
+
+-- each kept frame stands in the digest behind the places before it, under its place and its gain
+abbrev pub EachPlace : Counts → List Entry → Type 0
+EachPlace c es = (i : ℕ) (d : Entry) → i < length es → PlaceBehind (digest c (take i es)) (digest c es) i (getD es i d)
 
 -- why and where a text stopped
 unfoldable pub faultLines : TextFault → List ℕ

@@ -4,7 +4,6 @@ ghost use Prim.Native.Nat.{_≤_};
 ghost use lib.ListN.{length, drop};
 ghost use Rattle.std.specs.Written.{decimal};
 ghost use Rattle.records.specs.Format.{hexDigit};
-ghost use Rattle.records.specs.Sheets.{over};
 ghost use Rattle.report.specs.Lines.{lastDigits};
 
 // How many decimal digits `n` takes.

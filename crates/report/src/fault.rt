@@ -1,5 +1,5 @@
 ghost use mathlib.Core.Path.{_≡_};
-ghost use Rattle.records.specs.Faults.{lineRefusal, lineSpot, recordRefusal, recordSpot, textRefusal, textSpot};
+ghost use Rattle.records.specs.Faults.{lineRefusal, lineSpot, textRefusal, textSpot};
 use frames::refusal::Refusal;
 use records::fault::LineFault;
 use records::fault::RecordFault;

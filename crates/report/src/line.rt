@@ -1,8 +1,6 @@
 ghost use mathlib.Core.Path.{_≡_};
 ghost use lib.ListN.{length};
-ghost use Rattle.frames.specs.Refusals.{numberOf};
-ghost use Rattle.records.specs.Faults.{textRefusal, textSpot};
-ghost use Rattle.records.specs.Format.{hexadecimal, shown};
+ghost use Rattle.records.specs.Format.{shown};
 ghost use Rattle.report.specs.Digest.{decimalLine, countLines, placeLines, faultLines};
 ghost use Rattle.report.specs.Lines.{lineText, linesText};
 use crate::entry::Counts;
@@ -20,13 +18,13 @@ pub(crate) enum Form {
 
 // A line of a print-out: its key with the `=`, and its value.
 #[derive(Clone, Copy)]
-pub(crate) struct Line<'a> {
-    pub(crate) key: &'a [u8],
+pub(crate) struct Line {
+    pub(crate) key: &'static [u8],
     pub(crate) form: Form,
     pub(crate) value: u64,
 }
 
-fn decimal(key: &'static [u8], value: u64) -> Line<'static>
+fn decimal(key: &'static [u8], value: u64) -> Line
     ensures { λ r. ⌜ lineText r ≡ decimalLine (now (key .entry)) value ⌝ }
 {
     Line {
@@ -36,7 +34,7 @@ fn decimal(key: &'static [u8], value: u64) -> Line<'static>
     }
 }
 
-pub(crate) fn record_lines(x: &Frame) -> [Line<'static>; 7]
+pub(crate) fn record_lines(x: &Frame) -> [Line; 7]
     ensures len { λ r. ⌜ length r ≡ 7 ⌝ }
     ensures text { λ r. ⌜ linesText r ≡ shown (now (x .entry)) ⌝ }
 {
@@ -55,7 +53,7 @@ pub(crate) fn record_lines(x: &Frame) -> [Line<'static>; 7]
     ]
 }
 
-pub(crate) fn count_lines(counts: &Counts) -> [Line<'static>; 6]
+pub(crate) fn count_lines(counts: &Counts) -> [Line; 6]
     ensures { λ r. ⌜ linesText r ≡ countLines (now (counts .entry)) ⌝ }
 {
     [
@@ -68,7 +66,7 @@ pub(crate) fn count_lines(counts: &Counts) -> [Line<'static>; 6]
     ]
 }
 
-pub(crate) fn place_lines(place: usize, entry: &Entry) -> [Line<'static>; 9]
+pub(crate) fn place_lines(place: usize, entry: &Entry) -> [Line; 9]
     ensures { λ r. ⌜ linesText r ≡ placeLines place (now (entry .entry)) ⌝ }
 {
     let [number, marks, look, lane, tail, head, side] = record_lines(&entry.frame);
@@ -85,7 +83,7 @@ pub(crate) fn place_lines(place: usize, entry: &Entry) -> [Line<'static>; 9]
     ]
 }
 
-pub(crate) fn fault_lines(fault: &TextFault) -> [Line<'static>; 4]
+pub(crate) fn fault_lines(fault: &TextFault) -> [Line; 4]
     ensures { λ r. ⌜ linesText r ≡ faultLines (now (fault .entry)) ⌝ }
 {
     let spot = fault::text_spot(fault);

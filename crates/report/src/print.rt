@@ -1,6 +1,6 @@
 ghost use Rattle.records.specs.Format.{shown};
 ghost use Rattle.records.specs.Sheets.{Printed};
-ghost use Rattle.report.specs.Digest.{digest, faultLines};
+ghost use Rattle.report.specs.Digest.{digest, faultLines, EachPlace};
 use crate::entry::Counts;
 use crate::entry::Entry;
 use crate::line;
@@ -11,14 +11,15 @@ use records::fault::TextFault;
 
 // Writes the record of `x` at the front of `out`, and answers its length.
 pub fn print_record(x: &Frame, out: &mut [u8]) -> Result<usize, Refusal>
-    ensures { λ r. ⌜ Printed (shown (now (x .entry))) (now (out .entry)) (now (out .exit)) r ⌝ }
+    ensures printed { λ r. ⌜ Printed (shown (now (x .entry))) (now (out .entry)) (now (out .exit)) r ⌝ }
 {
     sheet::print_lines(&line::record_lines(x), out)
 }
 
 // Writes the digest at the front of `out`, and answers its length.
 pub fn print_digest(counts: &Counts, kept: &[Entry], out: &mut [u8]) -> Result<usize, Refusal>
-    ensures { λ r. ⌜ Printed (digest (now (counts .entry)) (now (kept .entry))) (now (out .entry)) (now (out .exit)) r ⌝ }
+    ensures printed { λ r. ⌜ Printed (digest (now (counts .entry)) (now (kept .entry))) (now (out .entry)) (now (out .exit)) r ⌝ }
+    ensures places { λ _. ⌜ EachPlace (now (counts .entry)) (now (kept .entry)) ⌝ }
 {
     let head = line::count_lines(counts);
     let Some(room) = sheet::room_after(&head, out.len()) else {
@@ -33,7 +34,7 @@ pub fn print_digest(counts: &Counts, kept: &[Entry], out: &mut [u8]) -> Result<u
 
 // Writes the lines of `fault` at the front of `out`, and answers their length.
 pub fn print_fault(fault: &TextFault, out: &mut [u8]) -> Result<usize, Refusal>
-    ensures { λ r. ⌜ Printed (faultLines (now (fault .entry))) (now (out .entry)) (now (out .exit)) r ⌝ }
+    ensures printed { λ r. ⌜ Printed (faultLines (now (fault .entry))) (now (out .entry)) (now (out .exit)) r ⌝ }
 {
     sheet::print_lines(&line::fault_lines(fault), out)
 }
