@@ -6,7 +6,7 @@ use native.Mathlib.Numerals.{add-one}
 use native.Mathlib.Omega.{arith}
 use lib.Dec.{ltb}
 use lib.ListN.{length, drop, set}
-use Rattle.std.proofs.shelf.Decimals.{decimal-by-steps, decimal-digit, decimal-step, decimal-some, length-decimal-le}
+use Rattle.std.proofs.shelf.Decimals.{decimal-by-steps, decimal-digit, decimal-step, length-decimal-le}
 use Rattle.std.proofs.shelf.Lists.{append-assoc, drop-set, length-push}
 use Rattle.std.proofs.shelf.Tests.{lt-ltb, cond-true}
 use Rattle.std.specs.Written.{decimal}

@@ -1,12 +1,12 @@
 -- Texts written one after another at the front of a buffer. Assumes nothing.
-use mathlib.Core.Path.{_≡_, refl, sym, ap, subst, _∙_}
+use mathlib.Core.Path.{_≡_, refl, sym, ap, _∙_}
 use mathlib.Core.List.{List, [], _∷_, _++_}
-use Prim.Native.Nat.{ℕ, zero, suc, _+_, _-_, _≤_, _<_}
+use Prim.Native.Nat.{ℕ, _+_, _-_, _≤_, _<_}
 use native.Mathlib.Nat.{zero-add}
 use native.Mathlib.Omega.{arith}
 use lib.ListN.{length, take, drop, getD, set}
-use borrow.Rule.Slice.PartMut.{putMid, postOf}
-use Rattle.std.proofs.shelf.Lists.{append-assoc, append-nil, length-append, length-drop, length-take, length-take-le, take-at, take-rest, drop-at, drop-drop, drop-more, length-push, set-at, take-append-drop, drop-all}
+use borrow.Rule.Slice.PartMut.{putMid}
+use Rattle.std.proofs.shelf.Lists.{append-assoc, append-nil, length-append, length-drop, length-take-le, take-at, take-rest, drop-at, drop-drop, drop-more, length-push, set-at, take-append-drop, drop-all}
 use Rattle.records.specs.Sheets.{over}
 
 -- t behind s

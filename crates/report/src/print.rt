@@ -9,14 +9,17 @@ use frames::frame::Frame;
 use frames::refusal::Refusal;
 use records::fault::TextFault;
 
-// Writes the record of `x` at the front of `out`, and answers its length.
+// A print-out writes its lines at the front of `out`, keeps the bytes behind them, and answers their length. A buffer that
+// is too short for them is refused, and stays as it was.
+
+// The record of `x`.
 pub fn print_record(x: &Frame, out: &mut [u8]) -> Result<usize, Refusal>
     ensures printed { λ r. ⌜ Printed (shown (now (x .entry))) (now (out .entry)) (now (out .exit)) r ⌝ }
 {
     sheet::print_lines(&line::record_lines(x), out)
 }
 
-// Writes the digest at the front of `out`, and answers its length.
+// The counts, and then the kept frames with their places and gains.
 pub fn print_digest(counts: &Counts, kept: &[Entry], out: &mut [u8]) -> Result<usize, Refusal>
     ensures printed { λ r. ⌜ Printed (digest (now (counts .entry)) (now (kept .entry))) (now (out .entry)) (now (out .exit)) r ⌝ }
     ensures places { λ _. ⌜ EachPlace (now (counts .entry)) (now (kept .entry)) ⌝ }
@@ -32,7 +35,7 @@ pub fn print_digest(counts: &Counts, kept: &[Entry], out: &mut [u8]) -> Result<u
     Ok(at + sheet::put_places(kept, &mut out[at..]))
 }
 
-// Writes the lines of `fault` at the front of `out`, and answers their length.
+// Why and where a text stopped.
 pub fn print_fault(fault: &TextFault, out: &mut [u8]) -> Result<usize, Refusal>
     ensures printed { λ r. ⌜ Printed (faultLines (now (fault .entry))) (now (out .entry)) (now (out .exit)) r ⌝ }
 {

@@ -1,4 +1,3 @@
-use native.Mathlib.Omega.{arith}
 use borrow.Author.Needs.{needs}
 use Rattle.std.proofs.shelf.Decimals.{decimal-some}
 use Rattle.report.proofs.Numerals.{length-decimal-digit, length-decimal-step, length-decimal-most}

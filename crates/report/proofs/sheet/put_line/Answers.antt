@@ -3,7 +3,7 @@ use mathlib.Core.List.{[]}
 use native.Mathlib.Omega.{arith}
 use Rattle.std.proofs.shelf.Lists.{append-nil, length-append}
 use Rattle.report.specs.Lines.{lineText, valueText}
-use Rattle.report.proofs.Pieces.{left-first, left-room, left-sum, left-last}
+use Rattle.report.proofs.Pieces.{left-first, left-room, left-last}
 use Rattle.report.proofs.sheet.put_line.Needs as need
 
 pub put-bytes-at-requires : need.put-bytes-at-requires

@@ -1,5 +1,5 @@
 use native.Mathlib.Omega.{arith}
-use Rattle.report.specs.Lines.{lineText, written}
+use Rattle.report.specs.Lines.{written}
 use Rattle.report.proofs.Rooms.{room-more, room-none}
 use Rattle.report.proofs.Texts.{length-line}
 use Rattle.report.proofs.sheet.room_after_line.Needs as need
