@@ -1,3 +1,4 @@
 pub mod Entries
 pub mod Offers
 pub mod Settling
+pub mod Counted

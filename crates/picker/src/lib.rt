@@ -1,3 +1,4 @@
+pub mod looks;
 pub mod offer;
 pub mod opening;
 pub mod picker;
