@@ -42,7 +42,10 @@ impl LineFault {
         ensures { λ r. ⌜ r ≡ lineSpot self ⌝ }
     {
         match self {
-            LineFault::WrongKey(spot) | LineFault::BadForm(spot) | LineFault::Over(spot) | LineFault::Cut(spot) => spot,
+            LineFault::WrongKey(spot)
+            | LineFault::BadForm(spot)
+            | LineFault::Over(spot)
+            | LineFault::Cut(spot) => spot,
         }
     }
 }
@@ -63,7 +66,11 @@ impl RecordFault {
     {
         match self {
             RecordFault::Line(fault) => fault.spot(),
-            RecordFault::ShiftFull { record, byte } => Spot { record, line: 0, byte },
+            RecordFault::ShiftFull { record, byte } => Spot {
+                record,
+                line: 0,
+                byte,
+            },
         }
     }
 }

@@ -1,6 +1,6 @@
 pub mod digits;
 pub mod fault;
-mod faults;
+pub mod faults;
 pub mod key;
 mod key_bytes;
 pub mod line;

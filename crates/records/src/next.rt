@@ -13,7 +13,11 @@ impl<'a> Records<'a> {
         ensures at { λ r. ⌜ r .at ≡ 0 ⌝ }
         ensures count { λ r. ⌜ r .count ≡ 0 ⌝ }
     {
-        Records { text, at: 0, count: 0 }
+        Records {
+            text,
+            at: 0,
+            count: 0,
+        }
     }
 
     // The byte where the next record starts.

@@ -19,7 +19,11 @@ pub(crate) fn decimal(bytes: &[u8]) -> Option<u64>
 pub(crate) fn hexadecimal(bytes: &[u8]) -> Option<u64>
     ensures { λ r. ⌜ Numbered (sixteen (now (bytes .entry))) 16 (now (bytes .entry)) r ⌝ }
 {
-    if bytes.len() == 16 { number_in(16, bytes) } else { None }
+    if bytes.len() == 16 {
+        number_in(16, bytes)
+    } else {
+        None
+    }
 }
 
 // The number that digits of a base write.

@@ -28,7 +28,12 @@ pub struct Place {
 }
 
 // Reads the line that starts at byte `at`, in the record at `place`, where `key` is due. Past the text's end it is cut.
-pub fn read_line<'a>(text: &'a [u8], at: usize, key: Key, place: Place) -> Result<Line<'a>, LineFault>
+pub fn read_line<'a>(
+    text: &'a [u8],
+    at: usize,
+    key: Key,
+    place: Place,
+) -> Result<Line<'a>, LineFault>
     ensures { λ r. ⌜ LineRead key (now (text .entry)) at (place .«record») (place .start) r ⌝ }
 {
     let s = &text[at.min(text.len())..];
@@ -121,9 +126,18 @@ fn judge(line: &Line<'_>, spot: Spot) -> Result<(), LineFault>
     ensures { λ r. ⌜ r ≡ cond (digitsOf (now (line .entry)) .formed) (cond (leb (digitsOf (now (line .entry)) .number) (highest (keyOf (now (line .entry))))) (Ok tt) (Err (OfRange spot))) (Err (OfForm spot)) ⌝ }
 {
     match line {
-        Line::Number(d) | Line::Marks(d) | Line::Look(d) | Line::Lane(d) | Line::Tail(d) | Line::Head(d) | Line::Side(d) if !d.formed => Err(LineFault::BadForm(spot)),
+        Line::Number(d)
+        | Line::Marks(d)
+        | Line::Look(d)
+        | Line::Lane(d)
+        | Line::Tail(d)
+        | Line::Head(d)
+        | Line::Side(d)
+            if !d.formed => Err(LineFault::BadForm(spot)),
         Line::Number(d) if d.number > 4_294_967_295 => Err(LineFault::Over(spot)),
-        Line::Look(d) | Line::Tail(d) | Line::Head(d) if d.number > 255 => Err(LineFault::Over(spot)),
+        Line::Look(d) | Line::Tail(d) | Line::Head(d) if d.number > 255 => Err(LineFault::Over(
+            spot,
+        )),
         Line::Lane(d) if d.number > 63 => Err(LineFault::Over(spot)),
         Line::Side(d) if d.number > 1 => Err(LineFault::Over(spot)),
         _ => Ok(()),

@@ -41,7 +41,13 @@ fn digits<'a>(line: Line<'a>) -> Digits<'a>
     ensures { λ r. ⌜ r ≡ digitsOf (line .entry) ⌝ }
 {
     match line {
-        Line::Number(d) | Line::Marks(d) | Line::Look(d) | Line::Lane(d) | Line::Tail(d) | Line::Head(d) | Line::Side(d) => d,
+        Line::Number(d)
+        | Line::Marks(d)
+        | Line::Look(d)
+        | Line::Lane(d)
+        | Line::Tail(d)
+        | Line::Head(d)
+        | Line::Side(d) => d,
     }
 }
 
