@@ -1,1 +1,5 @@
 pub mod Keys
+pub mod Feeds
+pub mod Numbers
+pub mod LineCases
+pub mod Lined

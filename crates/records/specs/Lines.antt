@@ -1,8 +1,9 @@
 -- What is told of one line. Assumes nothing.
 use mathlib.Core.Path.{_≡_}
 use mathlib.Core.Bool.{Bool, true, false}
+use mathlib.Core.Logic.{_⊎_}
 use mathlib.Core.List.{List, [], _∷_, _++_}
-use Prim.Native.Nat.{ℕ, _+_, min, _≤_, _<_}
+use Prim.Native.Nat.{ℕ, _+_, _≤_, _<_}
 use denote.Ref.{RefT, now}
 use lib.Dec.{eqb}
 use lib.ListN.{length, take, drop}
@@ -13,9 +14,11 @@ use Rattle.std.specs.declared.option.Option.{Option}
 use Rattle.std.specs.declared.result.Result.{Result}
 use Rattle.std.specs.declared.result.Result.the-variants.{Ok, Err}
 use Rattle.records.specs.Format.{keyBytes, longest, highest}
-use Rattle.records.specs.Reading.{Amiss, beforeFeed, digitsIn, numberIn, readLine, lineFaultAt, due}
+use Rattle.records.specs.Reading.{Amiss, beforeFeed, digitsIn, numberIn, readLine, lineFaultAt, baseOf, formOf}
 use Rattle.records.specs.declared.digits.Digits.{Digits}
 use Rattle.records.specs.declared.fault.LineFault.{LineFault}
+use Rattle.records.specs.declared.fault.LineFault.the-variants.{BadForm, Over}
+use Rattle.records.specs.declared.fault.Spot.{Spot}
 use Rattle.records.specs.declared.key.Key.{Key}
 use Rattle.records.specs.declared.key.Key.the-variants as keys
 use Rattle.records.specs.declared.line.Line.{Line}
@@ -47,9 +50,9 @@ behind d = d .at + length (now (d .bytes)) + 1
 abbrev pub Begun : List ℕ → List ℕ → Option (RefT (List ℕ)) → Type 0
 Begun key s r = options.Cases r (common eqb key s < length key) (λ rest. (common eqb key s ≡ length key) × (now rest ≡ drop (length key) s))
 
--- r is the place of the first line feed among the first n bytes
-abbrev pub Fed : ℕ → List ℕ → Option ℕ → Type 0
-Fed n s r = options.Cases r (min n (length s) ≤ beforeFeed n s) (λ i. (i ≡ beforeFeed n s) × (i < min n (length s)))
+-- r is the place of the first line feed
+abbrev pub Fed : List ℕ → Option ℕ → Type 0
+Fed s r = options.Cases r (beforeFeed s ≡ length s) (λ i. (i ≡ beforeFeed s) × (i < length s))
 
 -- r is the number that the bytes write, if they are digits of a base
 abbrev pub Numbered : Bool → ℕ → List ℕ → Option ℕ → Type 0
@@ -60,8 +63,13 @@ pub record Taken (k : Key) (ds : List ℕ) (place : ℕ) (l : Line) : Type 0 whe
   pub kind : keyOf l ≡ k
   pub at : digitsOf l .at ≡ place
   pub bytes : now (digitsOf l .bytes) ≡ ds
-  pub formed : digitsOf l .formed ≡ due k .formed ds
-  pub number : digitsOf l .formed ≡ true → digitsOf l .number ≡ numberIn (due k .base) ds
+  pub formed : digitsOf l .formed ≡ formOf k ds
+  pub number : digitsOf l .formed ≡ true → digitsOf l .number ≡ numberIn (baseOf k) ds
+
+-- r judges the value of a line, which stands at a spot: its form, and then its range
+abbrev pub Judged : Line → Spot → Result Line LineFault → Type 0
+Judged l at r =
+    results.Cases r (λ m. (m ≡ l) × (digitsOf l .formed ≡ true) × (digitsOf l .number ≤ highest (keyOf l))) (λ f. ((digitsOf l .formed ≡ false) × (f ≡ BadForm at)) ⊎ ((digitsOf l .formed ≡ true) × (highest (keyOf l) < digitsOf l .number) × (f ≡ Over at)))
 
 -- the line of k that starts at a byte of a text was read: its bytes are a part of the text, and the text goes on behind it
 pub record Passed (k : Key) (text : List ℕ) (start : ℕ) (l : Line) : Type 0 where

@@ -1,7 +1,7 @@
 -- How a text is read: a line, a record, and the records at the front of a text. Assumes nothing.
 use mathlib.Core.Bool.{Bool, true, cond, not, _&&_, _||_}
 use mathlib.Core.List.{List, [], _∷_, map}
-use Prim.Native.Nat.{ℕ, zero, suc, _+_, _-_, min}
+use Prim.Native.Nat.{ℕ, zero, suc, _+_, _-_}
 use lib.Dec.{eqb, leb, ltb}
 use lib.ListN.{length, getD, take, drop}
 use Rattle.std.specs.Text.{within}
@@ -67,22 +67,35 @@ pub record Due : Type 0 where
 abbrev pub decimalDue : List ℕ → ℕ → ℕ → Due
 decimalDue k most high = record { key = k; longest = most; highest = high; base = 10; formed = shortest }
 
+-- marks are written in hexadecimal, all else in decimal
+abbrev pub baseOf : Key → ℕ
+baseOf Number = 10
+baseOf Marks = 16
+baseOf Look = 10
+baseOf Lane = 10
+baseOf Tail = 10
+baseOf Head = 10
+baseOf Side = 10
+
+abbrev pub formOf : Key → List ℕ → Bool
+formOf Number = shortest
+formOf Marks = sixteen
+formOf Look = shortest
+formOf Lane = shortest
+formOf Tail = shortest
+formOf Head = shortest
+formOf Side = shortest
+
 abbrev pub due : Key → Due
-due Number = decimalDue (keyBytes Number) (longest Number) (highest Number)
-due Marks = record { key = keyBytes Marks; longest = longest Marks; highest = highest Marks; base = 16; formed = sixteen }
-due Look = decimalDue (keyBytes Look) (longest Look) (highest Look)
-due Lane = decimalDue (keyBytes Lane) (longest Lane) (highest Lane)
-due Tail = decimalDue (keyBytes Tail) (longest Tail) (highest Tail)
-due Head = decimalDue (keyBytes Head) (longest Head) (highest Head)
-due Side = decimalDue (keyBytes Side) (longest Side) (highest Side)
+due k = record { key = keyBytes k; longest = longest k; highest = highest k; base = baseOf k; formed = formOf k }
 
 -- the key is not there: the text ends within it, or a byte differs
 abbrev pub keyAmiss : List ℕ → List ℕ → Amiss
 keyAmiss key s = cond (eqb (common eqb key s) (length s)) (amiss cut 0) (amiss wrongKey (common eqb key s))
 
--- how many bytes stand before the first line feed among the first n
-abbrev pub beforeFeed : ℕ → List ℕ → ℕ
-beforeFeed n s = leading (λ c. not (eqb c 10)) (take n s)
+-- how many bytes stand before the first line feed
+abbrev pub beforeFeed : List ℕ → ℕ
+beforeFeed s = leading (λ c. not (eqb c 10)) s
 
 -- no line feed stands among the first bytes behind the key, one more than the longest value has
 abbrev pub endAmiss : Due → List ℕ → Amiss
@@ -93,11 +106,13 @@ abbrev pub judged : Due → List ℕ → List ℕ → Result (ℕ × List ℕ) A
 judged d ds rest =
     cond (d .formed ds) (cond (leb (numberIn (d .base) ds) (d .highest)) (Ok (numberIn (d .base) ds, rest)) (Err (amiss over (length (d .key))))) (Err (amiss badForm (length (d .key))))
 
--- the text behind the key is read: up to the line feed stands the value
+-- the text behind the key is read: up to the first line feed stands the value, and the line feed stands within one byte
+-- more than the longest value has
 abbrev pub readValue : Due → List ℕ → Result (ℕ × List ℕ) Amiss
 readValue d s =
-    let n = beforeFeed (d .longest + 1) s in
-    cond (ltb n (min (d .longest + 1) (length s))) (judged d (take n s) (drop (n + 1) s)) (Err (endAmiss d s))
+    let window = take (d .longest + 1) s in
+    let n = beforeFeed window in
+    cond (ltb n (length window)) (judged d (take n s) (drop (n + 1) s)) (Err (endAmiss d s))
 
 -- a text is read as a line: the value, and the text behind the line
 abbrev pub readDue : Due → List ℕ → Result (ℕ × List ℕ) Amiss

@@ -1,15 +1,12 @@
 ghost use mathlib.Core.Path.{_≡_};
-ghost use mathlib.Core.Bool.{cond};
 ghost use Prim.Native.Nat.{ℕ, _+_, _^_, _<_, _≤_};
-ghost use lib.Dec.{eqb, leb};
+ghost use lib.Dec.{eqb};
 ghost use lib.ListN.{length, drop};
 ghost use Rattle.std.specs.shelf.Lists.{common};
-ghost use Rattle.std.specs.declared.result.Result.the-variants.{Ok, Err};
 ghost use Rattle.records.specs.Faults.{spot as spotAt};
-ghost use Rattle.records.specs.Format.{keyBytes, longest, highest};
-ghost use Rattle.records.specs.Lines.{Taken, LineRead, keyOf, digitsOf};
+ghost use Rattle.records.specs.Format.{keyBytes};
+ghost use Rattle.records.specs.Lines.{Taken, Judged, LineRead};
 ghost use Rattle.records.specs.Reading.{due, keyAmiss, endAmiss, lineFaultAt, lineOf};
-ghost use Rattle.records.specs.declared.fault.LineFault.the-variants.{BadForm as OfForm, Over as OfRange};
 use crate::digits::Digits;
 use crate::fault::LineFault;
 use crate::fault::Spot;
@@ -36,18 +33,23 @@ pub fn read_line<'a>(
 ) -> Result<Line<'a>, LineFault>
     ensures { λ r. ⌜ LineRead key (now (text .entry)) at (place .«record») (place .start) r ⌝ }
 {
-    let s = &text[at.min(text.len())..];
+    let s = text_from(text, at);
     let Some(rest) = after_key(key, s) else {
         return Err(key_fault(key, s, at, place));
     };
-    let value = text.len() - rest.len();
-    let spot = spot_of(key, place, value);
     let Some(n) = line_feed(rest, key.longest()) else {
-        return Err(end_fault(key, rest, spot, place));
+        return Err(end_fault(key, rest, at, place));
     };
+    let value = text.len() - rest.len();
     let line = taken(key, &rest[0..n], value);
-    judge(&line, spot)?;
-    Ok(line)
+    judge(line, spot_of(key, place, value))
+}
+
+// The text from byte `at` on.
+fn text_from(text: &[u8], at: usize) -> &[u8]
+    ensures { λ r. ⌜ now r ≡ drop at (now (text .entry)) ⌝ }
+{
+    &text[at.min(text.len())..]
 }
 
 fn spot_of(key: Key, place: Place, byte: usize) -> Spot
@@ -84,14 +86,15 @@ fn in_common(a: &[u8], b: &[u8]) -> usize
     n
 }
 
-// Where no line feed stands among the first bytes of `rest`, which starts at `spot`.
-fn end_fault(key: Key, rest: &[u8], spot: Spot, place: Place) -> LineFault
-    ensures { λ r. ⌜ r ≡ cond (leb (length (now (rest .entry))) (longest key)) (LineFault.Cut (spotAt (place .«record») (lineOf key) (place .start))) (LineFault.BadForm spot) ⌝ }
+// Where no line feed stands among the first bytes of `rest`, which follows the key of the line at byte `at`.
+fn end_fault(key: Key, rest: &[u8], at: usize, place: Place) -> LineFault
+    requires { ⌜ at + length (keyBytes key) < 2 ^ 64 ⌝ }
+    ensures { λ r. ⌜ r ≡ lineFaultAt (place .«record») (place .start) key at (endAmiss (due key) (now (rest .entry))) ⌝ }
 {
     if rest.len() <= key.longest() {
         LineFault::Cut(spot_of(key, place, place.start))
     } else {
-        LineFault::BadForm(spot)
+        LineFault::BadForm(spot_of(key, place, at + key.bytes().len()))
     }
 }
 
@@ -122,8 +125,8 @@ fn taken<'a>(key: Key, bytes: &'a [u8], at: usize) -> Line<'a>
 }
 
 // Judges a value that stands at `spot` by its form, and then by the highest number of its kind.
-fn judge(line: &Line<'_>, spot: Spot) -> Result<(), LineFault>
-    ensures { λ r. ⌜ r ≡ cond (digitsOf (now (line .entry)) .formed) (cond (leb (digitsOf (now (line .entry)) .number) (highest (keyOf (now (line .entry))))) (Ok tt) (Err (OfRange spot))) (Err (OfForm spot)) ⌝ }
+fn judge<'a>(line: Line<'a>, spot: Spot) -> Result<Line<'a>, LineFault>
+    ensures { λ r. ⌜ Judged (line .entry) spot r ⌝ }
 {
     match line {
         Line::Number(d)
@@ -140,6 +143,6 @@ fn judge(line: &Line<'_>, spot: Spot) -> Result<(), LineFault>
         )),
         Line::Lane(d) if d.number > 63 => Err(LineFault::Over(spot)),
         Line::Side(d) if d.number > 1 => Err(LineFault::Over(spot)),
-        _ => Ok(()),
+        _ => Ok(line),
     }
 }
