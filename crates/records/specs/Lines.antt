@@ -81,7 +81,19 @@ pub record Passed (k : Key) (text : List ℕ) (start : ℕ) (l : Line) : Type 0 
   pub reads : readLine k (drop start text) ≡ Ok (digitsOf l .number, drop (behind (digitsOf l)) text)
   pub within : behind (digitsOf l) ≤ length text
 
--- the line of k that starts at a byte of a text, in a record that starts at another
+-- no line of k starts at a byte of a text: f is its fault, in the record of that number and start
+abbrev pub Unread : Key → List ℕ → ℕ → ℕ → ℕ → LineFault → Type 0
+Unread k text at number start f = (a : Amiss) × (readLine k (drop at text) ≡ Err a) × (f ≡ lineFaultAt number start k at a)
+
 abbrev pub LineRead : Key → List ℕ → ℕ → ℕ → ℕ → Result Line LineFault → Type 0
-LineRead k text at rec start r =
-    results.Cases r (λ l. Passed k text at l) (λ f. (a : Amiss) × (readLine k (drop at text) ≡ Err a) × (f ≡ lineFaultAt rec start k at a))
+LineRead k text at number start r = results.Cases r (λ l. Passed k text at l) (λ f. Unread k text at number start f)
+
+-- the line of k that starts at a byte of a text has the value v, and the text goes on at another byte
+pub record Valued (k : Key) (text : List ℕ) (at v next : ℕ) : Type 0 where
+  pub reads : readLine k (drop at text) ≡ Ok (v, drop next text)
+  pub range : v ≤ highest k
+  pub grows : at ≤ next
+  pub within : next ≤ length text
+
+abbrev pub ValueRead : Key → List ℕ → ℕ → ℕ → ℕ → Result (ℕ × ℕ) LineFault → Type 0
+ValueRead k text at number start r = results.Cases r (λ p. Valued k text at (p .0) (p .1)) (λ f. Unread k text at number start f)

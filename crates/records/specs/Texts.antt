@@ -1,13 +1,16 @@
 -- What is told of one record of a text, and of the records in turn. Assumes nothing.
 use mathlib.Core.Path.{_≡_}
+use mathlib.Core.Bool.{true}
 use mathlib.Core.List.{List, [], _++_}
 use Prim.Native.Nat.{ℕ, _+_, _≤_}
 use lib.ListN.{length, drop}
-use Rattle.std.specs.Results.{Cases}
+use Rattle.std.specs.Results.{Cases, isErr}
+use Rattle.std.specs.shelf.Lists.{All, joined}
 use Rattle.std.specs.declared.option.Option.{Option}
 use Rattle.std.specs.declared.option.Option.the-variants.{Some, None}
 use Rattle.std.specs.declared.result.Result.{Result}
 use Rattle.std.specs.declared.result.Result.the-variants.{Ok, Err}
+use Rattle.frames.specs.Frames.{InRange}
 use Rattle.frames.specs.declared.frame.Frame.{Frame}
 use Rattle.records.specs.Format.{shown}
 use Rattle.records.specs.Reading.{Wrong, readRecord, faultAt}
@@ -19,6 +22,12 @@ pub record Stands (text : List ℕ) (at : ℕ) (x : Frame) (behind : ℕ) : Type
   pub reads : readRecord (drop at text) ≡ Ok (x, drop behind text)
   pub grows : behind ≡ at + length (shown x)
   pub within : behind ≤ length text
+
+-- a text is the records of some frames, each in range, and what is left, where no record can be read
+pub record Split (text : List ℕ) (fs : List Frame) (rest : List ℕ) : Type 0 where
+  pub printed : text ≡ joined shown fs ++ rest
+  pub range : All InRange fs
+  pub stops : isErr (readRecord rest) ≡ true
 
 -- no record stands at byte `at` of a text: f is what is wrong with the record of that number
 abbrev pub Refused : List ℕ → ℕ → ℕ → RecordFault → Type 0

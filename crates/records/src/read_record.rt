@@ -1,9 +1,9 @@
 ghost use mathlib.Core.Path.{_≡_};
-ghost use Prim.Native.Nat.{ℕ, _+_, _^_, _<_, _≤_};
-ghost use lib.ListN.{length};
-ghost use Rattle.records.specs.Lines.{digitsOf, behind};
+ghost use Prim.Native.Nat.{ℕ};
+ghost use Rattle.records.specs.Lines.{digitsOf, ValueRead};
 ghost use Rattle.records.specs.Texts.{RecordRead};
 use crate::digits::Digits;
+use crate::fault::LineFault;
 use crate::fault::RecordFault;
 use crate::faults::RecordFaultFromLine;
 use crate::key::Key;
@@ -17,27 +17,40 @@ pub fn read_record(text: &[u8], at: usize, record: usize) -> Result<(Frame, usiz
     ensures { λ r. ⌜ RecordRead (now (text .entry)) at «record» r ⌝ }
 {
     let place = Place { record, start: at };
-    let number = digits(read_line(text, at, Key::Number, place)?);
-    let marks = digits(read_line(text, end(&number), Key::Marks, place)?);
-    let look = digits(read_line(text, end(&marks), Key::Look, place)?);
-    let lane = digits(read_line(text, end(&look), Key::Lane, place)?);
-    let tail = digits(read_line(text, end(&lane), Key::Tail, place)?);
-    let head = digits(read_line(text, end(&tail), Key::Head, place)?);
-    let side = digits(read_line(text, end(&head), Key::Side, place)?);
+    let (number, next) = value_at(text, at, Key::Number, place)?;
+    let (marks, next) = value_at(text, next, Key::Marks, place)?;
+    let (look, next) = value_at(text, next, Key::Look, place)?;
+    let (lane, next) = value_at(text, next, Key::Lane, place)?;
+    let (tail, next) = value_at(text, next, Key::Tail, place)?;
+    let (head, next) = value_at(text, next, Key::Head, place)?;
+    let (side, next) = value_at(text, next, Key::Side, place)?;
     let frame = Frame {
-        number: number.number as u32,
-        marks: marks.number,
-        look: look.number as u8,
-        lane: lane.number as u8,
-        tail: tail.number as u8,
-        head: head.number as u8,
-        side: side.number as u8,
+        number: number as u32,
+        marks,
+        look: look as u8,
+        lane: lane as u8,
+        tail: tail as u8,
+        head: head as u8,
+        side: side as u8,
     };
-    Ok((frame, end(&side)))
+    Ok((frame, next))
+}
+
+// The value of the line at byte `at`, where `key` is due, and the byte behind the line.
+fn value_at(text: &[u8], at: usize, key: Key, place: Place) -> Result<(u64, usize), LineFault>
+    ensures { λ r. ⌜ ValueRead key (now (text .entry)) at (place .«record») (place .start) r ⌝ }
+{
+    match read_line(text, at, key, place) {
+        Ok(line) => {
+            let digits = digits_of(line);
+            Ok((digits.number, digits.at + digits.bytes.len() + 1))
+        }
+        Err(fault) => Err(fault),
+    }
 }
 
 // The value of a line.
-fn digits<'a>(line: Line<'a>) -> Digits<'a>
+fn digits_of<'a>(line: Line<'a>) -> Digits<'a>
     ensures { λ r. ⌜ r ≡ digitsOf (line .entry) ⌝ }
 {
     match line {
@@ -49,12 +62,4 @@ fn digits<'a>(line: Line<'a>) -> Digits<'a>
         | Line::Head(d)
         | Line::Side(d) => d,
     }
-}
-
-// The byte behind the line feed of a value.
-fn end(d: &Digits<'_>) -> usize
-    requires { ⌜ behind (now d) < 2 ^ 64 ⌝ }
-    ensures { λ r. ⌜ r ≡ behind (now (d .entry)) ⌝ }
-{
-    d.at + d.bytes.len() + 1
 }
