@@ -1,3 +1,6 @@
 pub mod Sheets
 pub mod Format
 pub mod Faults
+pub mod Reading
+pub mod Lines
+pub mod Texts
