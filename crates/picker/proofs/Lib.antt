@@ -1,3 +1,5 @@
 mod Entries
 mod Advances
 mod Onward
+mod Labels
+mod Texts

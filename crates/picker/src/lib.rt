@@ -2,3 +2,4 @@ pub mod looks;
 pub mod offer;
 pub mod opening;
 pub mod picker;
+pub mod text;

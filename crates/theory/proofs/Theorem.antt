@@ -55,10 +55,10 @@ module _ {A : Type 0} {same : A → A → Bool} (eq : Same same) {f : List A →
     admitted = inv .fits .0;
     few = omega (arith, inv .fits .1, length-map (st .kept) (λ e. e .0));
     drawn = (inv .sourced .places, inv .sourced .drawn);
-    quarter = λ ps c d l ok. omega (arith, bounds ps c d l ok, inv .told, own);
+    quarter = λ c h ok. omega (arith, bounds (h .places) c (h .drawn) (h .few) ok, inv .told, own);
     took = inv .took;
     tells = told-is w (st .accepted);
-    bound = λ ps c d l ok. omega (arith, bounds ps c d l ok, told-is w (st .accepted));
+    bound = λ c h ok. omega (arith, bounds (h .places) c (h .drawn) (h .few) ok, told-is w (st .accepted));
     twice = omega (arith, inv .told, told-is w (st .accepted));
     earned = own;
   }

@@ -5,7 +5,7 @@ use mathlib.Core.List.{List, [], _∷_}
 use Prim.Native.Nat.{ℕ, _+_, _-_, _*_, _≤_}
 use lib.ListN.{length}
 use Rattle.std.specs.shelf.Lists.{sumBy}
-use Rattle.theory.specs.Bag.{Same, Drawn}
+use Rattle.theory.specs.Bag.{Same, Drawn, Choice}
 use Rattle.theory.specs.Laws.{Submodular, MatroidLaws}
 use Rattle.theory.specs.Digits.{binaryLength}
 use Rattle.theory.specs.Replay.{State, frames, replay}
@@ -24,10 +24,10 @@ pub record Promised {A : Type 0} (f : List A → ℕ) (adm : List A → Bool) (n
   pub few : length (st .kept) ≤ n
   pub drawn : (ps : List ℕ) × Drawn arrivals ps (frames (st .kept))
   -- no independent choice of at most n places has more than four times the value of what is kept
-  pub quarter : (ps : List ℕ) (c : List A) → Drawn arrivals ps c → length ps ≤ n → adm c ≡ true → f c ≤ 4 * f (frames (st .kept))
+  pub quarter : (c : List A) → Choice arrivals n c → adm c ≡ true → f c ≤ 4 * f (frames (st .kept))
   pub took : length (st .accepted) ≤ sumBy (λ e. binaryLength (e .1)) (st .kept)
   pub tells : told f (st .accepted) ≡ f (st .accepted)
-  pub bound : (ps : List ℕ) (c : List A) → Drawn arrivals ps c → length ps ≤ n → adm c ≡ true → f c ≤ told f (st .accepted) + 2 * gain st
+  pub bound : (c : List A) → Choice arrivals n c → adm c ≡ true → f c ≤ told f (st .accepted) + 2 * gain st
   pub twice : told f (st .accepted) ≤ 2 * gain st
   pub earned : gain st ≤ f (frames (st .kept))
 
