@@ -35,8 +35,8 @@ use Rattle.records.specs.Reading.{framesIn}
 use Rattle.picker.specs.declared.picker.Picker.{Picker}
 use Rattle.picker.specs.Entries.{total}
 use Rattle.picker.specs.Calls.{Called, offering, reading, clearing, arrive, arriveBy, arrivals}
-use Rattle.picker.specs.Label.{Label, Beside, nothing, Met, Labelled, Bounded}
-use Rattle.picker.specs.Offers.{Standing, After, Advanced, Answered, Offered, refusalOf}
+use Rattle.picker.specs.Label.{Label, Beside, nothing, Met, Labelled, Bounded, Carries, Promises}
+use Rattle.picker.specs.Offers.{Standing, After, Advanced, Answered, Offered, Emptied, refusalOf}
 use Rattle.picker.specs.Texts.{takenIn, textAnswer, TextOffered}
 use Rattle.picker.proofs.Onward.{after-more}
 
@@ -97,6 +97,10 @@ module _ {W R : Type 0} (value residual : W → List Frame → ℕ) (admits : R 
         go true a = met-advanced (arrivals h) (takenIn (p .seen) text) p q k (a .1)
         go false a = subst (λ q. After residual admits (value (q .objective)) (q .matroid) (q .size .n) nothing (arrivals h) q) (sym (a .1)) k
 
+    pub met-clear : (h : List Called) (p q : Picker W R) → Emptied value residual p q → Met value residual admits (h ++ clearing ∷ []) q
+    met-clear h p q o =
+        met-none (h ++ clearing ∷ []) q (arrivals-push h clearing) (o .kept) (o .took) (o .seen) (o .gain) (o .tells) (laws (q .objective) .whole .submodular .nothing) (λ s. o .left s ∙ sym (o .whole s))
+
     module _ (rules : (m : R) → MatroidLaws same (admits m)) (h : List Called) (p : Picker W R) (k : Met value residual admits h p) where
       st : State Frame
       st = replay (value (p .objective)) (admits (p .matroid)) (p .size .n) (arrivals h)
@@ -139,3 +143,6 @@ module _ {W R : Type 0} (value residual : W → List Frame → ℕ) (admits : R 
             earned = omega (arith, gain-is, theorem .earned, ap (λ es. value (p .objective) (frames es)) kept-is);
             most = omega (arith, accepted-is, took-few same-frames (laws (p .objective) .whole .submodular) (rules (p .matroid)) (p .size .n) (laws (p .objective) .whole .bounded) (arrivals h) st theorem);
           }
+
+    pub promises : ((m : R) → MatroidLaws same (admits m)) → (p : Picker W R) → Promises value residual admits p
+    promises rules p h k = (met-labelled rules h p k, met-bounded rules h p k)

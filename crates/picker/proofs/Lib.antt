@@ -1,5 +1,5 @@
-mod Entries
-mod Advances
-mod Onward
-mod Labels
-mod Texts
+pub mod Entries
+pub mod Advances
+pub mod Onward
+pub mod Labels
+pub mod Texts

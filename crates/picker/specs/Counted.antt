@@ -1,8 +1,19 @@
--- The counts of a picker. Assumes nothing.
+-- The look-ups of a picker. Assumes nothing.
+use Prim.Native.Nat.{ℕ}
 use lib.ListN.{length}
+use Rattle.std.specs.Options.{okOr}
+use Rattle.std.specs.shelf.Maps.{nth}
+use Rattle.std.specs.declared.result.Result.{Result}
+use Rattle.frames.specs.declared.entry.Entry.{Entry}
+use Rattle.frames.specs.declared.refusal.Refusal.{Refusal}
+use Rattle.frames.specs.declared.refusal.Refusal.the-variants.{NoPlace}
 use Rattle.report.specs.declared.counts.Counts.{Counts}
-use Rattle.exchange.specs.Tables.{held}
+use Rattle.exchange.specs.Tables.{entriesOf, held}
 use Rattle.picker.specs.declared.picker.Picker.{Picker}
 
 abbrev pub countsOf : {W R : Type 0} → Picker W R → Counts
 countsOf p = record { size = p .size .n; kept = length (held (p .table)); took = p .took; seen = p .seen; gain = p .gain; told = p .told }
+
+-- the kept frame at a place with its gain, unless the place is at or past the kept count
+abbrev pub lookOf : {W R : Type 0} → Picker W R → ℕ → Result Entry Refusal
+lookOf p i = okOr (nth (entriesOf (p .table)) i) NoPlace

@@ -1,6 +1,6 @@
 -- The promise of the label, over any run of calls. Assumes nothing.
 use mathlib.Core.Path.{_≡_}
-use mathlib.Core.List.{List, []}
+use mathlib.Core.List.{List, [], _∷_, _++_}
 use mathlib.Core.Bool.{Bool, true}
 use Prim.Native.Nat.{ℕ, _*_, _≤_}
 use lib.ListN.{length}
@@ -51,3 +51,11 @@ module _ {W R : Type 0} (value residual : W → List Frame → ℕ) (admits : R 
 
   abbrev pub Bounded : List Called → Picker W R → Type 0
   Bounded h p = Beside (value (p .objective)) (admits (p .matroid)) (p .size .n) (arrivals h) (held (p .table)) (p .took) (p .gain) (p .told)
+
+  -- a call c that made q of p goes on from any history to that history with the call
+  abbrev pub Carries : Called → Picker W R → Picker W R → Type 0
+  Carries c p q = (h : List Called) → Met h p → Met (h ++ c ∷ []) q
+
+  -- the promise holds of p, whatever calls led to it
+  abbrev pub Promises : Picker W R → Type 0
+  Promises p = (h : List Called) → Met h p → Labelled h p × Bounded h p

@@ -80,3 +80,15 @@ pub record Opened {W R : Type 0} (value residual : W → List Frame → ℕ) (n 
   pub rule : r .matroid ≡ matroid
   pub whole : (s : List Frame) → value (r .objective) s ≡ value objective s
   pub left : (s : List Frame) → residual (r .objective) s ≡ value objective s
+
+-- q is p after a clear: nothing is kept or counted, and all of the objective's value is to be gained again
+pub record Emptied {W R : Type 0} (value residual : W → List Frame → ℕ) (p q : Picker W R) : Type 0 where
+  pub kept : held (q .table) ≡ []
+  pub took : q .took ≡ 0
+  pub seen : q .seen ≡ 0
+  pub gain : q .gain ≡ 0
+  pub tells : q .told ≡ 0
+  pub size : q .size .n ≡ p .size .n
+  pub matroid : q .matroid ≡ p .matroid
+  pub whole : (s : List Frame) → value (q .objective) s ≡ value (p .objective) s
+  pub left : (s : List Frame) → residual (q .objective) s ≡ value (p .objective) s

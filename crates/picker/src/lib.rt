@@ -1,3 +1,4 @@
+pub mod clear;
 pub mod looks;
 pub mod offer;
 pub mod opening;

@@ -2,8 +2,11 @@ ghost use mathlib.Core.Path.{_≡_};
 ghost use Rattle.exchange.specs.Tables.{entriesOf};
 ghost use Rattle.records.specs.Sheets.{Printed};
 ghost use Rattle.report.specs.Digest.{digest};
-ghost use Rattle.picker.specs.Counted.{countsOf};
+ghost use Rattle.picker.specs.Calls.{looking, counting, printing};
+ghost use Rattle.picker.specs.Counted.{countsOf, lookOf};
+ghost use Rattle.picker.specs.Label.{Carries, Promises};
 use crate::picker::Picker;
+use frames::entry::Entry;
 use frames::refusal::Refusal;
 use matroids::matroid::Matroid;
 use objectives::objective::Objective;
@@ -11,8 +14,19 @@ use report::counts::Counts;
 use report::print::print_digest;
 
 impl<W: Objective, R: Matroid> Picker<W, R> {
+    // The kept frame at a place, with its gain.
+    pub fn look(&self, place: usize) -> Result<Entry, Refusal>
+        ensures value { λ r. ⌜ r ≡ lookOf (now (self .entry)) place ⌝ }
+        ensures carries { λ _. ⌜ Carries (W·Objective .value) (W·Objective .residual) (R·Matroid .admits) (looking place) (now (self .entry)) (now (self .entry)) ⌝ }
+        ensures promise { λ _. ⌜ Promises (W·Objective .value) (W·Objective .residual) (R·Matroid .admits) (now (self .entry)) ⌝ }
+    {
+        self.table.get(place).ok_or(Refusal::NoPlace)
+    }
+
     pub fn counts(&self) -> Counts
-        ensures { λ r. ⌜ r ≡ countsOf (now (self .entry)) ⌝ }
+        ensures value { λ r. ⌜ r ≡ countsOf (now (self .entry)) ⌝ }
+        ensures carries { λ _. ⌜ Carries (W·Objective .value) (W·Objective .residual) (R·Matroid .admits) counting (now (self .entry)) (now (self .entry)) ⌝ }
+        ensures promise { λ _. ⌜ Promises (W·Objective .value) (W·Objective .residual) (R·Matroid .admits) (now (self .entry)) ⌝ }
     {
         Counts {
             size: self.size.get() as u32,
@@ -26,7 +40,9 @@ impl<W: Objective, R: Matroid> Picker<W, R> {
 
     // Prints the digest at the front of `out`.
     pub fn print(&self, out: &mut [u8]) -> Result<usize, Refusal>
-        ensures { λ r. ⌜ Printed (digest (countsOf (now (self .entry))) (entriesOf (now (self .entry) .table))) (now (out .entry)) (now (out .exit)) r ⌝ }
+        ensures printed { λ r. ⌜ Printed (digest (countsOf (now (self .entry))) (entriesOf (now (self .entry) .table))) (now (out .entry)) (now (out .exit)) r ⌝ }
+        ensures carries { λ _. ⌜ Carries (W·Objective .value) (W·Objective .residual) (R·Matroid .admits) printing (now (self .entry)) (now (self .entry)) ⌝ }
+        ensures promise { λ _. ⌜ Promises (W·Objective .value) (W·Objective .residual) (R·Matroid .admits) (now (self .entry)) ⌝ }
     {
         print_digest(&self.counts(), self.table.entries(), out)
     }

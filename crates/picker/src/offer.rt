@@ -4,6 +4,8 @@ ghost use Prim.Native.Nat.{_<_};
 ghost use lib.ListN.{length, set};
 ghost use Rattle.exchange.specs.Tables.{held};
 ghost use Rattle.frames.specs.Frames.{InRange};
+ghost use Rattle.picker.specs.Calls.{offering};
+ghost use Rattle.picker.specs.Label.{Carries};
 ghost use Rattle.picker.specs.Offers.{Offered, Advanced, verdict};
 ghost use Rattle.picker.specs.Settling.{Accepting, Passing};
 use crate::picker::Picker;
@@ -77,8 +79,7 @@ impl<W: Objective, R: Matroid> Picker<W, R> {
         outcome
     }
 
-    // Takes in a frame, unless its lane or side is too high or the shift is full; then nothing changes.
-    pub fn offer(&mut self, x: Frame) -> Result<Outcome, Refusal>
+    fn settle(&mut self, x: Frame) -> Result<Outcome, Refusal>
         ensures { λ r. ⌜ Offered (W·Objective .value) (W·Objective .residual) (R·Matroid .admits) (now (self .entry)) x r (now (self .exit)) ⌝ }
     {
         if x.lane > 63 || x.side > 1 {
@@ -88,5 +89,13 @@ impl<W: Objective, R: Matroid> Picker<W, R> {
             return Err(Refusal::ShiftFull);
         }
         Ok(self.take_in(x))
+    }
+
+    // Takes in a frame, unless its lane or side is too high or the shift is full; then nothing changes.
+    pub fn offer(&mut self, x: Frame) -> Result<Outcome, Refusal>
+        ensures step { λ r. ⌜ Offered (W·Objective .value) (W·Objective .residual) (R·Matroid .admits) (now (self .entry)) x r (now (self .exit)) ⌝ }
+        ensures carries { λ _. ⌜ Carries (W·Objective .value) (W·Objective .residual) (R·Matroid .admits) (offering x) (now (self .entry)) (now (self .exit)) ⌝ }
+    {
+        self.settle(x)
     }
 }

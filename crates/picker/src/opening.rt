@@ -1,6 +1,5 @@
-ghost use mathlib.Core.Path.{_≡_};
-ghost use mathlib.Core.List.{List, []};
-ghost use Rattle.frames.specs.declared.frame.Frame.{Frame as FrameOf};
+ghost use mathlib.Core.List.{[]};
+ghost use Rattle.picker.specs.Label.{Met};
 ghost use Rattle.picker.specs.Offers.{Opened};
 use crate::picker::Picker;
 use exchange::size::Size;
@@ -11,7 +10,8 @@ use objectives::objective::Objective;
 impl<W: Objective, R: Matroid> Picker<W, R> {
     // A picker that keeps nothing, over a reset objective.
     pub fn open(size: Size, objective: W, matroid: R) -> Picker<W, R>
-        ensures { λ r. ⌜ Opened (W·Objective .value) (W·Objective .residual) (size .n) objective matroid r ⌝ }
+        ensures opened { λ r. ⌜ Opened (W·Objective .value) (W·Objective .residual) (size .n) objective matroid r ⌝ }
+        ensures met { λ r. ⌜ Met (W·Objective .value) (W·Objective .residual) (R·Matroid .admits) [] r ⌝ }
     {
         let mut objective = objective;
         objective.reset();

@@ -1,9 +1,6 @@
-ghost use mathlib.Core.Path.{_≡_};
-ghost use mathlib.Core.List.{[], _∷_};
-ghost use Rattle.std.specs.declared.result.Result.the-variants.{Ok as OkOf, Err as ErrOf};
 ghost use Rattle.frames.specs.Frames.{InRange};
-ghost use Rattle.records.specs.declared.fault.RecordFault.the-variants.{ShiftFull as FullAt};
-ghost use Rattle.picker.specs.Offers.{Advanced};
+ghost use Rattle.picker.specs.Calls.{reading};
+ghost use Rattle.picker.specs.Label.{Carries};
 ghost use Rattle.picker.specs.Texts.{TextOffered, RecordOffered};
 use crate::picker::Picker;
 use frames::frame::Frame;
@@ -30,9 +27,7 @@ impl<W: Objective, R: Matroid> Picker<W, R> {
         Ok(())
     }
 
-    // Offers a text's records in turn, and answers how many. It stops at the first fault, and the records before it
-    // stand; a text of over 65,536 bytes is not looked into.
-    pub fn offer_text(&mut self, text: &[u8]) -> Result<usize, TextFault>
+    fn read(&mut self, text: &[u8]) -> Result<usize, TextFault>
         ensures { λ r. ⌜ TextOffered (W·Objective .value) (W·Objective .residual) (R·Matroid .admits) (now (self .entry)) (now (text .entry)) r (now (self .exit)) ⌝ }
     {
         if text.len() > 65_536 {
@@ -46,5 +41,14 @@ impl<W: Objective, R: Matroid> Picker<W, R> {
             };
             self.take_record(x, records.count(), start)?;
         }
+    }
+
+    // Offers a text's records in turn, and answers how many. It stops at the first fault, and the records before it
+    // stand; a text of over 65,536 bytes is not looked into.
+    pub fn offer_text(&mut self, text: &[u8]) -> Result<usize, TextFault>
+        ensures step { λ r. ⌜ TextOffered (W·Objective .value) (W·Objective .residual) (R·Matroid .admits) (now (self .entry)) (now (text .entry)) r (now (self .exit)) ⌝ }
+        ensures carries { λ _. ⌜ Carries (W·Objective .value) (W·Objective .residual) (R·Matroid .admits) (reading (now (text .entry))) (now (self .entry)) (now (self .exit)) ⌝ }
+    {
+        self.read(text)
     }
 }

@@ -3,7 +3,7 @@ use Prim.Native.Nat.{_-_}
 use denote.Ref.{now}
 use lib.ListN.{length}
 use Rattle.picker.proofs.Texts.{SoFar}
-use Rattle.picker.proofs.picker.Picker.offer_text.Given as given
+use Rattle.picker.proofs.picker.Picker.read.Given as given
 
 abbrev pub Inv-loop-x : given.InvT-loop-x
 Inv-loop-x g l = (now (l .records .text) ≡ now (l .entry .records .text)) × SoFar (g .W·Objective .value) (g .W·Objective .residual) (g .R·Matroid .admits) (l .entry .self) (now (l .entry .records .text)) (l .records .at) (l .records .count) (l .self)

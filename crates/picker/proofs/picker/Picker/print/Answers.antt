@@ -1,0 +1,18 @@
+use mathlib.Core.Path.{_≡_, refl, ap₂, subst}
+use mathlib.Core.List.{List}
+use Prim.Native.Nat.{ℕ}
+use Rattle.records.specs.Sheets.{Printed}
+use Rattle.report.specs.Digest.{digest}
+use Rattle.picker.specs.Calls.{printing}
+use Rattle.picker.proofs.Labels.{met-same, promises}
+use Rattle.picker.proofs.picker.Picker.print.Needs as need
+
+pub returns : need.returns
+returns g c =
+    let p = c .args .self .now in
+    let same = ap₂ digest (c .counts .ensures .value) (c .entries .ensures) in
+    record {
+      printed = subst (λ t. Printed t (c .args .out .now) (c .print-digest .last .out) (c .print-digest .result)) same (c .print-digest .ensures .printed);
+      carries = λ h k. met-same (g .W·Objective .value) (g .W·Objective .residual) (g .R·Matroid .admits) h printing p refl k;
+      promise = promises (g .W·Objective .value) (g .W·Objective .residual) (g .R·Matroid .admits) (g .W·Objective .laws) (g .R·Matroid .laws) p;
+    }
