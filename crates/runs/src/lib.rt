@@ -1,0 +1,3 @@
+pub mod call;
+pub mod ran;
+pub mod run;
