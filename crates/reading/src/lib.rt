@@ -1,0 +1,3 @@
+mod next;
+pub mod read_record;
+pub mod records;
