@@ -11,6 +11,7 @@ use Rattle.std.proofs.shelf.Fronts.{front-from-reads, front-reads, front-fits}
 use Rattle.std.proofs.shelf.Sums.{common-le, common-drop-yes}
 use Rattle.std.proofs.shelf.Tests.{eq-eqb, eqb-true, cond-true, cond-false, cases-bool, cases-eq}
 use Rattle.std.specs.shelf.Lists.{common}
+use Rattle.records.proofs.Keys.{front-common}
 
 -- a key of five bytes, byte by byte
 pub five : (a b c d e : ℕ) (s : List ℕ) → ((common eqb (a ∷ b ∷ c ∷ d ∷ e ∷ []) s ≡ 5) × (5 ≤ length s) × (getD s 0 0 ≡ a) × (getD s 1 0 ≡ b) × (getD s 2 0 ≡ c) × (getD s 3 0 ≡ d) × (getD s 4 0 ≡ e)) ⊎ ((common eqb (a ∷ b ∷ c ∷ d ∷ e ∷ []) s < 5) × (5 ≤ length s → getD s 0 0 ≡ a → getD s 1 0 ≡ b → getD s 2 0 ≡ c → getD s 3 0 ≡ d → getD s 4 0 ≡ e → ⊥))
