@@ -15,7 +15,7 @@ use Rattle.std.specs.declared.result.Result.{Result}
 use Rattle.std.specs.declared.result.Result.the-variants.{Ok, Err}
 use Rattle.records.specs.Faults.{spot}
 use Rattle.records.specs.Format.{keyBytes, longest, highest}
-use Rattle.lines.specs.Lines.{keyOf, digitsOf, behind, Taken, Judged, Passed, LineRead}
+use Rattle.lines.specs.Lines.{keyOf, digitsOf, behind, Taken, Judged, Passed, LineRead, LineMeans}
 use Rattle.records.specs.Reading.{amiss, badForm, over, due, lineOf, keyAmiss, endAmiss, beforeFeed, numberIn, baseOf, formOf, judged, readValue, readLine, lineFaultAt}
 use Rattle.records.specs.declared.fault.LineFault.{LineFault}
 use Rattle.records.specs.declared.key.Key.{Key}
@@ -23,7 +23,11 @@ use Rattle.records.specs.declared.key.Key.the-variants.{Number, Marks, Look, La
 use Rattle.lines.specs.declared.line.Line.{Line}
 use Rattle.records.proofs.Keys.{front-common}
 use Rattle.records.proofs.Feeds.{feed-splits}
+use Rattle.records.proofs.Roundtrip.{line-shown, read-line-shown}
 use Rattle.records.proofs.LineCases.{no-key, key-there, no-end, end-there, no-form, too-high, all-well}
+
+apart : {X Y : Type 0} (r : Result X Y) (x : X) (y : Y) → r ≡ Ok x → r ≡ Err y → ⊥
+apart r x y p q = let z : _≡_ {A = ℕ} 0 1 = cc in omega arith
 
 pub key-some : (k : Key) → 0 < length (keyBytes k)
 key-some Number = omega arith
@@ -115,3 +119,9 @@ module _ (k : Key) (text : List ℕ) (at n : ℕ) (s rest : List ℕ) (from : s 
   line-read rec start (Err f) (inr p) =
       let high : highest k < digitsOf l .number = subst (λ (k : Key). highest k < digitsOf l .number) (t .kind) (p .1) in
       (amiss over (length (keyBytes k)), reads-as ∙ too-high (due k) (take n rest) (drop (n + 1) rest) (sym (t .formed) ∙ p .0) (subst (λ (m : ℕ). highest k < m) (t .number (p .0)) high), p .2)
+
+-- a line was read just where it is printed so
+pub line-means : (k : Key) (text : List ℕ) (at number start : ℕ) (r : Result Line LineFault) → LineRead k text at number start r → LineMeans k text at r
+line-means k text at number start (Ok l) p = line-shown k (drop at text) (digitsOf l .number) (drop (behind (digitsOf l)) text) (p .reads)
+line-means k text at number start (Err f) p =
+    λ v rest low e. apart (readLine k (drop at text)) (v, rest) (p .0) (ap (readLine k) e ∙ read-line-shown k v rest low) (p .1)

@@ -13,7 +13,7 @@ use Rattle.std.specs.shelf.Lists.{common}
 use Rattle.std.specs.declared.option.Option.{Option}
 use Rattle.std.specs.declared.result.Result.{Result}
 use Rattle.std.specs.declared.result.Result.the-variants.{Ok, Err}
-use Rattle.records.specs.Format.{keyBytes, longest, highest}
+use Rattle.records.specs.Format.{keyBytes, highest, shownLine}
 use Rattle.records.specs.Reading.{Amiss, beforeFeed, digitsIn, numberIn, readLine, lineFaultAt, baseOf, formOf}
 use Rattle.lines.specs.declared.digits.Digits.{Digits}
 use Rattle.records.specs.declared.fault.LineFault.{LineFault}
@@ -87,6 +87,11 @@ Unread k text at number start f = (a : Amiss) × (readLine k (drop at text) ≡ 
 
 abbrev pub LineRead : Key → List ℕ → ℕ → ℕ → ℕ → Result Line LineFault → Type 0
 LineRead k text at number start r = results.Cases r (λ l. Passed k text at l) (λ f. Unread k text at number start f)
+
+-- the same in the format's words: the text goes on with the line that is printed of the value, or with no such line
+abbrev pub LineMeans : Key → List ℕ → ℕ → Result Line LineFault → Type 0
+LineMeans k text at r =
+    results.Cases r (λ l. (digitsOf l .number ≤ highest k) × (drop at text ≡ shownLine k (digitsOf l .number) ++ drop (behind (digitsOf l)) text)) (λ _. (v : ℕ) (rest : List ℕ) → v ≤ highest k → drop at text ≡ shownLine k v ++ rest → ⊥)
 
 -- the line of k that starts at a byte of a text has the value v, and the text goes on at another byte
 pub record Valued (k : Key) (text : List ℕ) (at v next : ℕ) : Type 0 where

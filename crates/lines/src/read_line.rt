@@ -1,7 +1,7 @@
 ghost use mathlib.Core.Path.{_≡_};
 ghost use Prim.Native.Nat.{ℕ};
 ghost use lib.ListN.{drop};
-ghost use Rattle.lines.specs.Lines.{LineRead};
+ghost use Rattle.lines.specs.Lines.{LineRead, LineMeans};
 use crate::due::longest_of;
 use crate::key_bytes::after_key;
 use crate::line::Line;
@@ -22,7 +22,8 @@ pub fn read_line<'a>(
     key: Key,
     place: Place,
 ) -> Result<Line<'a>, LineFault>
-    ensures { λ r. ⌜ LineRead key (now (text .entry)) at (place .«record») (place .start) r ⌝ }
+    ensures reads { λ r. ⌜ LineRead key (now (text .entry)) at (place .«record») (place .start) r ⌝ }
+    ensures means { λ r. ⌜ LineMeans key (now (text .entry)) at r ⌝ }
 {
     let s = text_from(text, at);
     let Some(rest) = after_key(key, s) else {

@@ -1,11 +1,9 @@
 -- What is told of one record of a text, and of the records in turn. Assumes nothing.
 use mathlib.Core.Path.{_≡_}
-use mathlib.Core.Bool.{true}
 use mathlib.Core.List.{List, [], _++_}
 use Prim.Native.Nat.{ℕ, _+_, _≤_}
 use lib.ListN.{length, drop}
-use Rattle.std.specs.Results.{Cases, isErr}
-use Rattle.std.specs.shelf.Lists.{All, joined}
+use Rattle.std.specs.Results.{Cases}
 use Rattle.std.specs.declared.option.Option.{Option}
 use Rattle.std.specs.declared.option.Option.the-variants.{Some, None}
 use Rattle.std.specs.declared.result.Result.{Result}
@@ -29,6 +27,11 @@ Refused text at number f = (w : Wrong) × (readRecord (drop at text) ≡ Err w) 
 
 abbrev pub RecordRead : List ℕ → ℕ → ℕ → Result (Frame × ℕ) RecordFault → Type 0
 RecordRead text at number r = Cases r (λ p. Stands text at (p .0) (p .1)) (λ f. Refused text at number f)
+
+-- the same in the format's words: the text goes on with what is printed of a frame in range, or with no such thing
+abbrev pub RecordMeans : List ℕ → ℕ → Result (Frame × ℕ) RecordFault → Type 0
+RecordMeans text at r =
+    Cases r (λ p. InRange (p .0) × (drop at text ≡ shown (p .0) ++ drop (p .1) text)) (λ _. (x : Frame) (rest : List ℕ) → InRange x → drop at text ≡ shown x ++ rest → ⊥)
 
 -- r answers a call for the next record, where `count` records were read up to byte `at`, and `count′` up to `at′` after it
 abbrev pub NextRead : List ℕ → ℕ → ℕ → ℕ → ℕ → Result (Option Frame) RecordFault → Type 0

@@ -1,7 +1,7 @@
 ghost use mathlib.Core.Path.{_≡_};
 ghost use Prim.Native.Nat.{ℕ};
 ghost use Rattle.lines.specs.Lines.{digitsOf, ValueRead};
-ghost use Rattle.reading.specs.Texts.{RecordRead};
+ghost use Rattle.reading.specs.Texts.{RecordRead, RecordMeans};
 use frames::frame::Frame;
 use lines::digits::Digits;
 use lines::line::Line;
@@ -14,7 +14,8 @@ use records::key::Key;
 
 // Reads the record that starts at byte `at` and is the text's record number `record`: its frame, and the byte behind it.
 pub fn read_record(text: &[u8], at: usize, record: usize) -> Result<(Frame, usize), RecordFault>
-    ensures { λ r. ⌜ RecordRead (now (text .entry)) at «record» r ⌝ }
+    ensures reads { λ r. ⌜ RecordRead (now (text .entry)) at «record» r ⌝ }
+    ensures means { λ r. ⌜ RecordMeans (now (text .entry)) at r ⌝ }
 {
     let place = Place { record, start: at };
     let (number, next) = value_at(text, at, Key::Number, place)?;

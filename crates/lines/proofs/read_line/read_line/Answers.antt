@@ -5,11 +5,12 @@ use native.Mathlib.Omega.{arith}
 use borrow.Author.Needs.{needs}
 use lib.ListN.{length, take, drop, length-drop, length-take}
 use Rattle.records.specs.Format.{keyBytes, longest}
-use Rattle.lines.specs.Lines.{Taken, Judged}
+use Rattle.lines.specs.Lines.{Taken, Judged, LineRead}
 use Rattle.records.specs.Faults.{spot}
+use Rattle.std.specs.declared.result.Result.the-variants.{Err}
 use Rattle.records.specs.declared.fault.Spot.{Spot}
 use Rattle.records.specs.Reading.{due, keyAmiss, endAmiss, beforeFeed, readLine, lineOf}
-use Rattle.lines.proofs.Lined.{line-no-key, line-no-end, value-place, due-found, feed-within, line-read}
+use Rattle.lines.proofs.Lined.{line-no-key, line-no-end, value-place, due-found, feed-within, line-read, line-means}
 use Rattle.lines.proofs.read_line.read_line.Needs as need
 
 pub key-fault-requires : need.key-fault-requires
@@ -18,7 +19,8 @@ key-fault-requires c κs = record { fits = λ h. omega (arith, ap length (c .tex
 pub returns-in-rest : need.returns-in-rest
 returns-in-rest c =
     let s = c .text-from-s .result .now in
-    (keyAmiss (keyBytes (c .args .key)) s, ap (readLine (c .args .key)) (sym (c .text-from-s .ensures)) ∙ line-no-key (c .args .key) s (c .in-rest .ensures tt), c .key-fault .ensures)
+    let p : LineRead (c .args .key) (c .args .text .now) (c .args .at) (c .args .place .«record») (c .args .place .start) (Err (c .key-fault .result)) = (keyAmiss (keyBytes (c .args .key)) s, ap (readLine (c .args .key)) (sym (c .text-from-s .ensures)) ∙ line-no-key (c .args .key) s (c .in-rest .ensures tt), c .key-fault .ensures) in
+    record { reads = p; means = line-means (c .args .key) (c .args .text .now) (c .args .at) (c .args .place .«record») (c .args .place .start) (Err (c .key-fault .result)) p }
 
 pub end-fault-requires : need.end-fault-requires
 end-fault-requires c κs =
@@ -31,7 +33,8 @@ returns-in-rest-line-feed c =
     let rest = c .in-Some .rest .now in
     let h = c .in-Some .ensures tt in
     let none = subst (λ (m : ℕ). beforeFeed (take (m + 1) rest) ≡ length (take (m + 1) rest)) (c .longest-of .ensures) (c .in-rest-line-feed .ensures tt) in
-    (endAmiss (due k) rest, ap (readLine k) (sym (c .text-from-s .ensures)) ∙ line-no-end k (c .text-from-s .result .now) rest (h .0) (h .1) none, c .end-fault .ensures)
+    let p : LineRead (c .args .key) (c .args .text .now) (c .args .at) (c .args .place .«record») (c .args .place .start) (Err (c .end-fault .result)) = (endAmiss (due k) rest, ap (readLine k) (sym (c .text-from-s .ensures)) ∙ line-no-end k (c .text-from-s .result .now) rest (h .0) (h .1) none, c .end-fault .ensures) in
+    record { reads = p; means = line-means (c .args .key) (c .args .text .now) (c .args .at) (c .args .place .«record») (c .args .place .start) (Err (c .end-fault .result)) p }
 
 pub sub-value : need.sub-value
 sub-value c =
@@ -61,4 +64,5 @@ returns c =
     let there : length text - length rest ≡ at + length (keyBytes k) = omega (arith, value-place k s rest (h .0) (h .1) text at (c .text-from-s .ensures)) in
     let t = subst (λ (m : ℕ). Taken k (take m rest) (at + length (keyBytes k)) l) all (subst (λ (v : ℕ). Taken k (take (n - 0) rest) v l) there (c .taken-line .ensures)) in
     let j = subst (λ (at : Spot). Judged l at (c .judge .result)) (c .spot-of .ensures ∙ ap (λ (v : ℕ). spot (c .args .place .«record») (lineOf k) v) there) (c .judge .ensures) in
-    line-read k text at n s rest (c .text-from-s .ensures) (h .0) (h .1) (p .0) (p .1) l t (c .args .place .«record») (c .args .place .start) (c .judge .result) j
+    let p : LineRead (c .args .key) (c .args .text .now) (c .args .at) (c .args .place .«record») (c .args .place .start) (c .judge .result) = line-read k text at n s rest (c .text-from-s .ensures) (h .0) (h .1) (p .0) (p .1) l t (c .args .place .«record») (c .args .place .start) (c .judge .result) j in
+    record { reads = p; means = line-means (c .args .key) (c .args .text .now) (c .args .at) (c .args .place .«record») (c .args .place .start) (c .judge .result) p }

@@ -16,11 +16,11 @@ returns-then-self c =
 pub returns-in-Break-frame : need.returns-in-Break-frame
 returns-in-Break-frame c =
     let s = c .args .self .now in
-    let h = next-refused (s .text .now) (s .at) (s .count) (c .from-residual .result) (c .in-Break-frame .field-0 .0) (omega arith) (c .in-Break-frame .ensures tt) (c .from-residual .ensures .1) in
+    let h = next-refused (s .text .now) (s .at) (s .count) (c .from-residual .result) (c .in-Break-frame .field-0 .0) (omega arith) (c .in-Break-frame .ensures tt .reads) (c .from-residual .ensures .1) in
     record { text = refl; cases = h; exact = next-by-text (s .text .now) (s .at) (s .count) (s .at) (s .count) (c .from-residual .result) h }
 
 pub returns : need.returns
 returns c =
     let s = c .args .self .now in
-    let h = c .in-Continue-frame .ensures tt in
+    let h = c .in-Continue-frame .ensures tt .reads in
     record { text = refl; cases = (h, refl); exact = next-by-text (s .text .now) (s .at) (s .count) (c .in-Continue-frame .behind) (s .count + 1) _ (h, refl) }
