@@ -40,14 +40,7 @@ pub(crate) fn judge<'a>(line: Line<'a>, spot: Spot) -> Result<Line<'a>, LineFaul
     ensures { λ r. ⌜ Judged (line .entry) spot r ⌝ }
 {
     match line {
-        Line::Number(d)
-        | Line::Marks(d)
-        | Line::Look(d)
-        | Line::Lane(d)
-        | Line::Tail(d)
-        | Line::Head(d)
-        | Line::Side(d)
-            if !d.formed => Err(LineFault::BadForm(spot)),
+        _ if !line.digits().formed => Err(LineFault::BadForm(spot)),
         Line::Number(d) if d.number > 4_294_967_295 => Err(LineFault::Over(spot)),
         Line::Look(d) | Line::Tail(d) | Line::Head(d) if d.number > 255 => Err(LineFault::Over(
             spot,

@@ -1,10 +1,7 @@
-ghost use mathlib.Core.Path.{_≡_};
 ghost use Prim.Native.Nat.{ℕ};
-ghost use Rattle.lines.specs.Lines.{digitsOf, ValueRead};
+ghost use Rattle.lines.specs.Lines.{ValueRead};
 ghost use Rattle.reading.specs.Texts.{RecordRead, RecordMeans};
 use frames::frame::Frame;
-use lines::digits::Digits;
-use lines::line::Line;
 use lines::place::Place;
 use lines::read_line::read_line;
 use records::fault::LineFault;
@@ -43,24 +40,9 @@ fn value_at(text: &[u8], at: usize, key: Key, place: Place) -> Result<(u64, usiz
 {
     match read_line(text, at, key, place) {
         Ok(line) => {
-            let digits = digits_of(line);
+            let digits = line.digits();
             Ok((digits.number, digits.at + digits.bytes.len() + 1))
         }
         Err(fault) => Err(fault),
-    }
-}
-
-// The value of a line.
-fn digits_of<'a>(line: Line<'a>) -> Digits<'a>
-    ensures { λ r. ⌜ r ≡ digitsOf (line .entry) ⌝ }
-{
-    match line {
-        Line::Number(d)
-        | Line::Marks(d)
-        | Line::Look(d)
-        | Line::Lane(d)
-        | Line::Tail(d)
-        | Line::Head(d)
-        | Line::Side(d) => d,
     }
 }
