@@ -1,2 +1,2 @@
 mod Exits
-mod Turns
+pub mod Turns

@@ -1,6 +1,6 @@
 -- What one call for the next record tells, by its answer and by the text.
 use mathlib.Core.Path.{_≡_, refl, sym, ap, subst, _∙_}
-use mathlib.Core.List.{List, []}
+use mathlib.Core.List.{List, [], _∷_}
 use Prim.Native.Nat.{ℕ, _+_, _≤_, _<_}
 use native.Mathlib.Omega.{arith}
 use lib.ListN.{length, drop, length-drop}
@@ -12,11 +12,11 @@ use Rattle.std.specs.declared.result.Result.{Result}
 use Rattle.std.specs.declared.result.Result.the-variants.{Ok, Err}
 use Rattle.frames.specs.declared.frame.Frame.{Frame}
 use Rattle.records.specs.Format.{shown}
-use Rattle.records.specs.Reading.{Wrong, readRecord, faultAt}
+use Rattle.records.specs.Reading.{Wrong, readRecord, faultAt, framesIn}
 use Rattle.reading.specs.Texts.{Stands, Refused, NextRead, Next}
 use Rattle.records.specs.declared.fault.RecordFault.{RecordFault}
 use Rattle.records.specs.declared.fault.RecordFault.the-variants.{Line}
-use Rattle.records.proofs.TextCases.{no-bytes}
+use Rattle.records.proofs.TextCases.{no-bytes, frames-more, frames-none}
 
 -- no record can be read at the end
 nothing-left : (s : List ℕ) (x : Frame) (rest : List ℕ) → s ≡ [] → readRecord s ≡ Ok (x, rest) → ⊥
@@ -62,3 +62,22 @@ next-refused text at count r f l h by =
     let q = err-from-errBy r by in
     let some : drop at text ≡ [] → ⊥ = λ e. omega (arith, ap length e, length-drop at text) in
     subst (NextRead text at count at count) (sym (q .1 ∙ ap Err (q .2))) (some, h, refl, refl)
+
+-- what a caller learns in each arm
+module _ (text : List ℕ) (at count at′ count′ : ℕ) (o : Option Frame) (h : NextRead text at count at′ count′ (Ok o)) where
+  pub next-some : (x : Frame) → o ≡ Some x → Stands text at x at′ × (count′ ≡ count + 1)
+  next-some x e = subst (λ (o : Option Frame). NextRead text at count at′ count′ (Ok o)) e h
+
+  pub next-none : o ≡ None → (drop at text ≡ []) × (at′ ≡ at) × (count′ ≡ count)
+  next-none e = subst (λ (o : Option Frame). NextRead text at count at′ count′ (Ok o)) e h
+
+-- the frames that are still to come, before a call and after it
+pub frames-next : (text : List ℕ) (at : ℕ) (x : Frame) (behind : ℕ) → Stands text at x behind → framesIn (drop at text) ≡ x ∷ framesIn (drop behind text)
+frames-next text at x behind s = frames-more (drop at text) x (drop behind text) (s .reads)
+
+pub frames-stop : (text : List ℕ) (at number : ℕ) (f : RecordFault) → Refused text at number f → framesIn (drop at text) ≡ []
+frames-stop text at number f r = frames-none (drop at text) (r .0) (r .1)
+
+pub frames-end : (s : List ℕ) → s ≡ [] → framesIn s ≡ []
+unfolding framesIn
+frames-end s e = ap framesIn e
