@@ -6,10 +6,10 @@ use crate::picker::Picker;
 use frames::frame::Frame;
 use matroids::matroid::Matroid;
 use objectives::objective::Objective;
+use reading::records::Records;
 use records::fault::RecordFault;
 use records::fault::TextFault;
 use records::faults::TextFaultFromRecord;
-use records::records::Records;
 
 impl<W: Objective, R: Matroid> Picker<W, R> {
     // Takes in the frame of a record, unless the shift is full.

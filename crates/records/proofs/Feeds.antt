@@ -12,16 +12,6 @@ use Rattle.std.proofs.shelf.Tests.{eq-eqb, ne-eqb, eqb-true, cond-true, cond-fa
 use Rattle.std.proofs.shelf.Lists.{drop-more, take-append-drop, getD-take, length-take}
 use Rattle.records.specs.Reading.{beforeFeed}
 
-module _ (s : List ℕ) (i : ℕ) (far : beforeFeed s ≡ i + beforeFeed (drop i s)) where
-  pub feed-here : i < length s → getD s i 0 ≡ 10 → i ≡ beforeFeed s
-  feed-here l e = omega (arith, leading-drop-no (λ c. not (eqb c 10)) s i 0 l (ap not (eq-eqb (getD s i 0) 10 e)))
-
-  pub feed-later : i < length s → (getD s i 0 ≡ 10 → ⊥) → beforeFeed s ≡ (i + 1) + beforeFeed (drop (i + 1) s)
-  feed-later l e = omega (arith, leading-drop-yes (λ c. not (eqb c 10)) s i 0 l (ap not (ne-eqb (getD s i 0) 10 e)))
-
-  pub feed-never : i ≡ length s → beforeFeed s ≡ length s
-  feed-never l = omega (arith, leading-drop-all (λ c. not (eqb c 10)) s i (omega arith))
-
 -- a line feed stands where it was found
 pub feed-at : (s : List ℕ) → beforeFeed s < length s → getD s (beforeFeed s) 0 ≡ 10
 feed-at [] h = absurd (omega arith)

@@ -1,12 +1,10 @@
 pub mod Keys
 pub mod Feeds
-pub mod Numbers
 pub mod LineCases
-pub mod Lined
-pub mod RecordCases
 pub mod Notation
 pub mod Decimals
 pub mod Hexadecimals
+pub mod RecordCases
 pub mod Roundtrip
 pub mod TextCases
-pub mod Turns
+pub mod Claims

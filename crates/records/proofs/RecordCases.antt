@@ -11,7 +11,6 @@ use Rattle.std.specs.declared.result.Result.the-variants.{Ok, Err}
 use Rattle.frames.specs.declared.frame.Frame.{Frame}
 use Rattle.records.specs.Faults.{spot}
 use Rattle.records.specs.Reading.{Why, wrongKey, badForm, over, cut, Amiss, Wrong, told, fault, lineOf, readLine, wrongIn, readRecord, faultAt, lineFaultAt}
-use Rattle.records.specs.Texts.{Refused, RecordRead}
 use Rattle.records.specs.declared.fault.LineFault.{LineFault}
 use Rattle.records.specs.declared.fault.RecordFault.{RecordFault}
 use Rattle.records.specs.declared.fault.RecordFault.the-variants.{Line}
@@ -69,7 +68,3 @@ same-fault number text start at k a le far =
     let w = a .why in
     let e : length (drop start text) - length (drop at text) ≡ at - start = omega (arith, length-drop start text, length-drop at text) in
     ap (λ (n : ℕ). fault w (spot number (lineOf k) n)) (told-from w start at (a .byte) le ∙ ap (λ (m : ℕ). start + told w 0 (m + a .byte)) (sym e))
-
--- what the exit of a `?` returns
-pub refused : (text : List ℕ) (start number : ℕ) (r : Result (Frame × ℕ) RecordFault) (f : LineFault) (w : Wrong) → readRecord (drop start text) ≡ Err w → f ≡ faultAt number start w → ErrBy r (λ y. y ≡ Line f) → RecordRead text start number r
-refused text start number r f w e p by = let q = err-from-errBy r by in rw (q .1) (w, e, q .2 ∙ ap Line p)

@@ -14,7 +14,7 @@ use Rattle.frames.specs.Frames.{InRange}
 use Rattle.frames.specs.declared.frame.Frame.{Frame}
 use Rattle.records.specs.Format.{shown}
 use Rattle.records.specs.Reading.{Wrong, readRecord, framesUpTo, leftUpTo, framesIn, leftIn}
-use Rattle.records.specs.Texts.{Split, Stands}
+use Rattle.records.specs.Claims.{Split}
 use Rattle.std.proofs.shelf.Tests.{false≢true}
 use Rattle.records.proofs.Roundtrip.{read-shown, record-shown}
 
@@ -134,12 +134,3 @@ split-unique (x ∷ fs) s rest h =
     let r : readRecord s ≡ Ok (x, joined shown fs ++ rest) = ap readRecord e ∙ read-shown x (h .range .0) (joined shown fs ++ rest) in
     let t = split-unique fs (joined shown fs ++ rest) rest (record { printed = refl; range = h .range .1; stops = h .stops }) in
     (ap (λ (gs : List Frame). x ∷ gs) (t .0) ∙ sym (frames-more s x (joined shown fs ++ rest) r), t .1 ∙ sym (left-more s x (joined shown fs ++ rest) r))
-
--- a record that was read stands there
-pub stands : (text : List ℕ) (at : ℕ) (x : Frame) (behind : ℕ) → readRecord (drop at text) ≡ Ok (x, drop behind text) → at ≤ behind → behind ≤ length text → Stands text at x behind
-stands text at x behind e grows within =
-    record {
-      reads = e;
-      grows = omega (arith, record-shortens (drop at text) x (drop behind text) e, length-drop at text, length-drop behind text);
-      within = within;
-    }

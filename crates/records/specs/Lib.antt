@@ -2,5 +2,4 @@ pub mod Sheets
 pub mod Format
 pub mod Faults
 pub mod Reading
-pub mod Lines
-pub mod Texts
+pub mod Claims

@@ -1,12 +1,4 @@
-pub mod digits;
 pub mod fault;
 pub mod faults;
 pub mod key;
-mod key_bytes;
-pub mod line;
-mod line_feed;
-mod next;
-mod number;
-pub mod read_line;
-pub mod read_record;
-pub mod records;
+pub mod stands;

@@ -12,7 +12,7 @@ use Rattle.frames.specs.declared.frame.Frame.{Frame}
 use Rattle.records.specs.declared.fault.RecordFault.{RecordFault}
 use Rattle.records.specs.declared.fault.RecordFault.the-variants.{ShiftFull}
 use Rattle.records.specs.declared.fault.TextFault.the-variants.{Record}
-use Rattle.records.specs.Texts.{Stands, NextRead}
+use Rattle.reading.specs.Texts.{Stands, NextRead}
 use Rattle.records.proofs.Roundtrip.{record-shown}
 use Rattle.picker.proofs.Texts.{SoFar, Done, recorded-ok, recorded-err, so-far-none, so-far-more, done-ended, done-refused, done-full, text-offered}
 use Rattle.picker.proofs.picker.Picker.read.Needs as need
@@ -24,7 +24,7 @@ loop-x-holds g c =
     let made = c .new-records .ensures in
     let none = so-far-none (g .W·Objective .value) (g .W·Objective .residual) (g .R·Matroid .admits) (g .W·Objective .laws) p (now (r .text)) in (
       refl,
-      subst (λ at. SoFar (g .W·Objective .value) (g .W·Objective .residual) (g .R·Matroid .admits) p (now (r .text)) at (r .count) p) (sym (made .at))
+      subst (λ at. SoFar (g .W·Objective .value) (g .W·Objective .residual) (g .R·Matroid .admits) p (now (r .text)) at (r .count) p) (sym (made .start))
           (subst (λ n. SoFar (g .W·Objective .value) (g .W·Objective .residual) (g .R·Matroid .admits) p (now (r .text)) 0 n p) (sym (made .count)) none),
     )
 

@@ -1,0 +1,4 @@
+mod KeyBytes
+mod Feeding
+mod Numbers
+mod Lined

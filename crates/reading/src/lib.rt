@@ -1,0 +1,4 @@
+mod next;
+mod progress;
+pub mod read_record;
+pub mod records;
