@@ -15,7 +15,7 @@ use Rattle.frames.specs.declared.entry.Entry.{Entry}
 use Rattle.frames.specs.Frames.{InRange, inRange}
 use Rattle.exchange.specs.declared.table.KeptTable.{KeptTable}
 use Rattle.exchange.specs.Outcomes.{noFrame, gainAt}
-use Rattle.exchange.specs.Tables.{entriesOf, held}
+use Rattle.exchange.specs.Tables.{entriesOf, pairs, held}
 use Rattle.picker.specs.Entries.{sound, total}
 
 abbrev pub entry : Frame → ℕ → Entry
@@ -62,3 +62,32 @@ module _ (es : List (Frame × ℕ)) (x : Frame) (g : ℕ) where
       let d : Frame × ℕ = (noFrame, 0) in
       let here : gainAt es p ≡ getD es p d .1 = getD-map (λ (e : Frame × ℕ). e .1) es p d 0 l in
       (omega (arith, getD-le-sumBy (λ (e : Frame × ℕ). e .1) es p d l), omega (arith, sumBy-set (λ (e : Frame × ℕ). e .1) es p (x, g) d l))
+
+pub in-range : (x : Frame) → inRange x ≡ true → InRange x
+in-range x h =
+    let a = and-parts _ _ h in
+    let b = and-parts _ _ (a .0) in
+    let c = and-parts _ _ (b .0) in
+    let d = and-parts _ _ (c .0) in
+    let e = and-parts _ _ (d .0) in
+    let f = and-parts (leb (x .number) 4294967295) (leb (x .marks) 18446744073709551615) (e .0) in
+    record {
+      number = leb-true _ _ (f .0);
+      marks = leb-true _ _ (f .1);
+      look = leb-true _ _ (e .1);
+      lane = leb-true _ _ (d .1);
+      tail = leb-true _ _ (c .1);
+      head = leb-true _ _ (b .1);
+      side = leb-true _ _ (a .1);
+    }
+
+-- each kept entry is a frame that a record can hold, with a gain of 32 bits
+pub sound-at : (es : List Entry) (i : ℕ) (d : Entry) → sound (pairs es) ≡ true → i < length es → InRange (getD es i d .frame) × (getD es i d .gain ≤ 4294967295)
+sound-at [] i d h l = absurd (omega arith)
+sound-at (e ∷ es) zero d h l =
+    let two = and-parts (inRange (e .frame) && leb (e .gain) 4294967295) (sound (pairs es)) h in
+    let here = and-parts (inRange (e .frame)) (leb (e .gain) 4294967295) (two .0) in
+    (in-range (e .frame) (here .0), leb-true (e .gain) 4294967295 (here .1))
+sound-at (e ∷ es) (suc i) d h l =
+    let two = and-parts (inRange (e .frame) && leb (e .gain) 4294967295) (sound (pairs es)) h in
+    sound-at es i d (two .1) (omega arith)

@@ -3,7 +3,7 @@ ghost use Rattle.exchange.specs.Tables.{entriesOf};
 ghost use Rattle.records.specs.Sheets.{Printed};
 ghost use Rattle.report.specs.Digest.{digest};
 ghost use Rattle.picker.specs.Calls.{looking, counting, printing};
-ghost use Rattle.picker.specs.Counted.{countsOf, lookOf};
+ghost use Rattle.picker.specs.Counted.{countsOf, lookOf, PlacesBack};
 ghost use Rattle.picker.specs.Label.{Carries, Promises};
 use crate::picker::Picker;
 use frames::entry::Entry;
@@ -38,9 +38,11 @@ impl<W: Objective, R: Matroid> Picker<W, R> {
         }
     }
 
-    // Prints the digest at the front of `out`.
+    // Prints the digest at the front of `out`. What it prints for each place reads back as the place, the gain and the
+    // frame that are kept there.
     pub fn print(&self, out: &mut [u8]) -> Result<usize, Refusal>
         ensures printed { λ r. ⌜ Printed (digest (countsOf (now (self .entry))) (entriesOf (now (self .entry) .table))) (now (out .entry)) (now (out .exit)) r ⌝ }
+        ensures reads_back { λ _. ⌜ PlacesBack (now (self .entry)) ⌝ }
         ensures carries { λ _. ⌜ Carries (W·Objective .value) (W·Objective .residual) (R·Matroid .admits) printing (now (self .entry)) (now (self .entry)) ⌝ }
         ensures promise { λ _. ⌜ Promises (W·Objective .value) (W·Objective .residual) (R·Matroid .admits) (now (self .entry)) ⌝ }
     {

@@ -1,7 +1,7 @@
 -- What the product prints besides a frame's record. Assumes nothing.
 use mathlib.Core.List.{List, [], _∷_, _++_}
 use mathlib.Core.Path.{_≡_}
-use Prim.Native.Nat.{ℕ, _+_, _<_}
+use Prim.Native.Nat.{ℕ, _+_, _≤_, _<_}
 use lib.Chars.{codes}
 use lib.ListN.{length, getD, take}
 use Rattle.std.specs.Written.{decimal}
@@ -9,6 +9,10 @@ use Rattle.frames.specs.Refusals.{numberOf}
 use Rattle.records.specs.declared.fault.TextFault.{TextFault}
 use Rattle.records.specs.Faults.{textRefusal, textSpot}
 use Rattle.records.specs.Format.{shown}
+use Rattle.records.specs.Reading.{readDecimalLine, readRecord}
+use Rattle.frames.specs.Frames.{InRange}
+use Rattle.frames.specs.declared.frame.Frame.{Frame}
+use Rattle.std.specs.declared.result.Result.the-variants.{Ok}
 use Rattle.report.specs.declared.counts.Counts.{Counts}
 use Rattle.frames.specs.declared.entry.Entry.{Entry}
 
@@ -35,15 +39,26 @@ placesFrom i (e ∷ es) = placeLines i e ++ placesFrom (i + 1) es
 unfoldable pub digest : Counts → List Entry → List ℕ
 digest c es = countLines c ++ placesFrom 0 es
 
--- `whole` is `front` and then the three parts of the place i: the line of i, the line of the gain there, and the record of
--- the frame there
-pub record PlaceBehind (front whole : List ℕ) (i : ℕ) (e : Entry) : Type 0 where
-  pub back : List ℕ
-  pub parts : whole ≡ front ++ (decimalLine (codes "place=") i ++ (decimalLine (codes "worth=") (e .gain) ++ (shown (e .frame) ++ back)))
+-- the record of a frame in range reads back as that frame, with the text behind it untouched
+abbrev pub RecordBack : Frame → Type 0
+RecordBack x = InRange x → (rest : List ℕ) → readRecord (shown x ++ rest) ≡ Ok (x, rest)
 
--- each kept frame stands in the digest behind the places before it, under its place and its gain
-abbrev pub EachPlace : Counts → List Entry → Type 0
-EachPlace c es = (i : ℕ) (d : Entry) → i < length es → PlaceBehind (digest c (take i es)) (digest c es) i (getD es i d)
+-- behind `front` the text `whole` reads as the place i, the gain of e and the record of its frame
+pub record PlaceReads (front whole : List ℕ) (i : ℕ) (e : Entry) : Type 0 where
+  pub behind : List ℕ
+  pub worth : List ℕ
+  pub record-at : List ℕ
+  pub back : List ℕ
+  pub parts : whole ≡ front ++ behind
+  pub place-reads : readDecimalLine (codes "place=") 20 18446744073709551615 behind ≡ Ok (i, worth)
+  pub worth-reads : readDecimalLine (codes "worth=") 10 4294967295 worth ≡ Ok (e .gain, record-at)
+  pub frame-reads : readRecord record-at ≡ Ok (e .frame, back)
+
+-- each kept frame that may be taken in stands in the digest behind the places before it, and reads as it was kept
+abbrev pub ReadsBack : Counts → List Entry → Type 0
+ReadsBack c es =
+    (i : ℕ) (d : Entry) → i < length es → getD es i d .gain ≤ 4294967295 → InRange (getD es i d .frame)
+    → PlaceReads (digest c (take i es)) (digest c es) i (getD es i d)
 
 -- why and where a text stopped
 unfoldable pub faultLines : TextFault → List ℕ

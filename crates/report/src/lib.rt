@@ -1,6 +1,5 @@
 pub mod counts;
 mod digits;
-mod fault;
 mod line;
 pub mod print;
 mod sheet;

@@ -4,7 +4,6 @@ ghost use Rattle.records.specs.Format.{shown};
 ghost use Rattle.report.specs.Digest.{decimalLine, countLines, placeLines, faultLines};
 ghost use Rattle.report.specs.Lines.{lineText, linesText};
 use crate::counts::Counts;
-use crate::fault;
 use frames::entry::Entry;
 use frames::frame::Frame;
 use records::fault::TextFault;
@@ -86,9 +85,9 @@ pub(crate) fn place_lines(place: usize, entry: &Entry) -> [Line; 9]
 pub(crate) fn fault_lines(fault: &TextFault) -> [Line; 4]
     ensures { λ r. ⌜ linesText r ≡ faultLines (now (fault .entry)) ⌝ }
 {
-    let spot = fault::text_spot(fault);
+    let spot = fault.spot();
     [
-        decimal(b"fault=", fault::text_refusal(fault).number() as u64),
+        decimal(b"fault=", fault.refusal().number() as u64),
         decimal(b"record=", spot.record as u64),
         decimal(b"line=", spot.line as u64),
         decimal(b"byte=", spot.byte as u64),

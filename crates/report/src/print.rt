@@ -1,6 +1,6 @@
 ghost use Rattle.records.specs.Format.{shown};
 ghost use Rattle.records.specs.Sheets.{Printed};
-ghost use Rattle.report.specs.Digest.{digest, faultLines, EachPlace};
+ghost use Rattle.report.specs.Digest.{digest, faultLines, ReadsBack, RecordBack};
 use crate::counts::Counts;
 use crate::line;
 use crate::sheet;
@@ -12,9 +12,10 @@ use records::fault::TextFault;
 // A print-out writes its lines at the front of `out`, keeps the bytes behind them, and answers their length. A buffer that
 // is too short for them is refused, and stays as it was.
 
-// The record of `x`.
+// The record of `x`. For a frame in range it reads back as that frame, with the text behind it untouched.
 pub fn print_record(x: &Frame, out: &mut [u8]) -> Result<usize, Refusal>
     ensures printed { λ r. ⌜ Printed (shown (now (x .entry))) (now (out .entry)) (now (out .exit)) r ⌝ }
+    ensures reads_back { λ _. ⌜ RecordBack (now (x .entry)) ⌝ }
 {
     sheet::print_lines(&line::record_lines(x), out)
 }
@@ -22,7 +23,7 @@ pub fn print_record(x: &Frame, out: &mut [u8]) -> Result<usize, Refusal>
 // The counts, and then the kept frames with their places and gains.
 pub fn print_digest(counts: &Counts, kept: &[Entry], out: &mut [u8]) -> Result<usize, Refusal>
     ensures printed { λ r. ⌜ Printed (digest (now (counts .entry)) (now (kept .entry))) (now (out .entry)) (now (out .exit)) r ⌝ }
-    ensures places { λ _. ⌜ EachPlace (now (counts .entry)) (now (kept .entry)) ⌝ }
+    ensures reads_back { λ _. ⌜ ReadsBack (now (counts .entry)) (now (kept .entry)) ⌝ }
 {
     let head = line::count_lines(counts);
     let Some(room) = sheet::room_after(&head, out.len()) else {
