@@ -65,7 +65,7 @@ impl KeptTable {
     pub fn replace(&mut self, place: usize, e: Entry)
         ensures { λ _. ⌜ entriesOf (now (self .exit)) ≡ set (entriesOf (now (self .entry))) place e ⌝ }
     {
-        if place < self.len {
+        if self.len > place {
             self.entries[place] = e;
         }
     }
@@ -80,11 +80,10 @@ impl KeptTable {
     pub fn gain_at(&self, place: usize) -> u32
         ensures { λ r. ⌜ r ≡ gainAt (held (now (self .entry))) place ⌝ }
     {
-        if place < self.len {
-            self.entries[place].gain
-        } else {
-            0
+        if place >= self.len {
+            return 0;
         }
+        self.entries[place].gain
     }
 
     // The frame at a place that is kept.

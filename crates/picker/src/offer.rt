@@ -40,15 +40,21 @@ impl<W: Objective, R: Matroid> Picker<W, R> {
     }
 
     // The frame that leaves is not taken back from the objective.
-    fn swap(&mut self, x: Frame, g: u32, place: usize)
+    fn swap(&mut self, newcomer: Frame, g: u32, place: usize)
         requires seen { ⌜ now self .seen < 1000000 ⌝ }
         requires place { ⌜ place < length (held (now self .table)) ⌝ }
-        requires range { ⌜ InRange x ⌝ }
-        ensures { λ _. ⌜ Accepting (W·Objective .value) (W·Objective .residual) x g (set (held (now (self .entry) .table)) place (x, g)) (now (self .entry)) (now (self .exit)) ⌝ }
+        requires range { ⌜ InRange newcomer ⌝ }
+        ensures { λ _. ⌜ Accepting (W·Objective .value) (W·Objective .residual) newcomer g (set (held (now (self .entry) .table)) place (newcomer, g)) (now (self .entry)) (now (self .exit)) ⌝ }
     {
         let was = self.table.gain_at(place);
-        self.objective.add(&x);
-        self.table.replace(place, Entry { frame: x, gain: g });
+        self.objective.add(&newcomer);
+        self.table.replace(
+            place,
+            Entry {
+                frame: newcomer,
+                gain: g,
+            },
+        );
         self.took += 1;
         self.seen += 1;
         self.gain = self.gain - u64::from(was) + u64::from(g);

@@ -7,11 +7,11 @@ use Rattle.exchange.specs.Tables.{entriesOf}
 use Rattle.exchange.proofs.Tables.{length-entries, take-set-below}
 use Rattle.exchange.proofs.table.KeptTable.replace.Needs as need
 
-pub returns-then-place-self : need.returns-then-place-self
-returns-then-place-self c = take-set-below (c .args .self .now .len) (c .args .self .now .entries) (c .args .place) (c .args .e) (c .if-place-self .taken)
+pub returns-then-self-place : need.returns-then-self-place
+returns-then-self-place c = take-set-below (c .args .self .now .len) (c .args .self .now .entries) (c .args .place) (c .args .e) (c .if-self-place .taken)
 
-pub returns-else-place-self : need.returns-else-place-self
-returns-else-place-self c =
+pub returns-else-self-place : need.returns-else-self-place
+returns-else-self-place c =
     let t = c .args .self .now in
-    let l : length (entriesOf t) ≤ c .args .place = omega (arith, length-entries t, c .if-place-self .left) in
+    let l : length (entriesOf t) ≤ c .args .place = omega (arith, length-entries t, c .if-self-place .left) in
     sym (set-past (entriesOf t) (c .args .place) (c .args .e) l)
