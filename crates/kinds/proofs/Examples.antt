@@ -4,7 +4,7 @@ use mathlib.Core.Bool.{true, false}
 use mathlib.Core.List.{List, [], _∷_, _++_}
 use Prim.Native.Nat.{ℕ}
 use lib.ListN.{replicate}
-use Rattle.kinds.specs.Objectives.{coverage, facility, concave}
+use Rattle.kinds.specs.Objectives.{coverage, facility, stepsOf, concave}
 use Rattle.kinds.specs.Matroids.{partition, laminar}
 
 -- a frame is its set of classes: 3 shows 0 and 1, 2 shows 1; class 2 is shown by none
@@ -18,12 +18,12 @@ unfolding facility
 liked = refl
 
 -- two frames of lane 1, one of lane 0, and one of a lane that adds nothing
-stepped : concave (λ x. x) (9 ∷ replicate 7 0 ++ (6 ∷ 5 ∷ 4 ∷ [])) (1 ∷ 0 ∷ 70 ∷ 1 ∷ []) ≡ 20
+stepped : concave (λ x. x) (stepsOf (9 ∷ replicate 7 0 ++ (6 ∷ 5 ∷ 4 ∷ []))) (1 ∷ 0 ∷ 70 ∷ 1 ∷ []) ≡ 20
 unfolding concave
 stepped = refl
 
 -- nine frames have the value of eight steps
-filled : concave (λ x. x) (replicate 512 1) (replicate 9 3) ≡ 8
+filled : concave (λ x. x) (stepsOf (replicate 512 1)) (replicate 9 3) ≡ 8
 unfolding concave
 filled = refl
 
