@@ -169,8 +169,8 @@ module _ (counts steps : List ℕ) where
   no-step l h = getD-past (stepsLeft counts steps l) 0 0 (omega (arith, length-drop (getD counts l 0) (stepsOf steps l), length-take 8 (drop (8 * l) steps)))
 
   -- one frame more of lane k takes its next step; eight are all that count
-  pub count-here : (k l : ℕ) → k < length counts → k ≡ l → stepsLeft (set counts k (min 8 (getD counts k 0 + 1))) steps l ≡ drop 1 (stepsLeft counts steps l)
-  count-here k l m e = ap (λ i. stepsLeft (set counts k (min 8 (getD counts k 0 + 1))) steps i) (sym e) ∙ ap (λ c. drop c (stepsOf steps k)) (getD-set-same counts k (min 8 (getD counts k 0 + 1)) 0 m) ∙ ⊎-elim few full (cases-lt (getD counts k 0) 8) ∙ ap (λ i. drop 1 (stepsLeft counts steps i)) e
+  pub count-here : (k n l : ℕ) → k < length counts → n ≡ min 8 (getD counts k 0 + 1) → k ≡ l → stepsLeft (set counts k n) steps l ≡ drop 1 (stepsLeft counts steps l)
+  count-here k n l m up e = ap (λ i. stepsLeft (set counts k n) steps i) (sym e) ∙ ap (λ c. drop c (stepsOf steps k)) (getD-set-same counts k n 0 m ∙ up) ∙ ⊎-elim few full (cases-lt (getD counts k 0) 8) ∙ ap (λ i. drop 1 (stepsLeft counts steps i)) e
     where
       few : getD counts k 0 < 8 → drop (min 8 (getD counts k 0 + 1)) (stepsOf steps k) ≡ drop 1 (stepsLeft counts steps k)
       few h = let same : min 8 (getD counts k 0 + 1) ≡ getD counts k 0 + 1 = omega arith in ap (λ c. drop c (stepsOf steps k)) same ∙ sym (drop-drop 1 (getD counts k 0) (stepsOf steps k))
