@@ -1,4 +1,3 @@
-use borrow.Author.Needs.{needs}
 use mathlib.Core.Path.{sym, ap}
 use Prim.Native.Nat.{_+_, _*_, min}
 use native.Mathlib.Omega.{arith}

@@ -1,11 +1,8 @@
 use borrow.Author.Count.{below-more}
-use mathlib.Core.Path.{_≡_, _∙_}
+use mathlib.Core.Path.{_∙_}
 use mathlib.Core.Logic.{_≢_}
-use Prim.Native.Nat.{ℕ, max}
 use native.Mathlib.Omega.{arith}
-use lib.ListN.{getD}
 use Rattle.std.proofs.shelf.Lists.{getD-set-same, getD-set-other}
-use Rattle.kinds.specs.Objectives.{likeness}
 use Rattle.facility.proofs.location.raise.Needs as need
 
 pub loop-v-again : need.loop-v-again

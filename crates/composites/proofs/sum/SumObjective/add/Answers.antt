@@ -1,4 +1,4 @@
-use mathlib.Core.Path.{sym, ap, ap₂, _∙_}
+use mathlib.Core.Path.{ap, ap₂, _∙_}
 use Prim.Native.Nat.{_+_, _-_, min}
 use Rattle.kinds.specs.Objectives.{joint}
 use Rattle.kinds.proofs.Told.{joint-added}
