@@ -59,9 +59,9 @@ module _ {A : Type 0} (x : A) (s : List A) where
   pub told-capped : (room : ℕ) (f : List A → ℕ) → tell (capped room f) x s ≡ capped (room - capped room f (x ∷ [])) (tell f x) s
   told-capped room f = omega arith
 
-  -- two under one cap were f and f′ and are g and g′, now that x is added
-  pub joint-added : (room : ℕ) {f f′ : List A → ℕ} (g g′ : List A → ℕ) → Submodular f → Submodular f′ → g s ≡ tell f x s → g′ s ≡ tell f′ x s → joint (room - joint room f f′ (x ∷ [])) g g′ s ≡ tell (joint room f f′) x s
-  joint-added room {f} {f′} g g′ w v e e′ = ap (min (room - joint room f f′ (x ∷ []))) (omega (arith, e, e′, told-plus w v)) ∙ sym (told-capped room (λ t. f t + f′ t))
+  -- two under one cap were f and f′ and are g and g′, now that x is added and took n of the room
+  pub joint-added : (room n : ℕ) {f f′ : List A → ℕ} (g g′ : List A → ℕ) → Submodular f → Submodular f′ → n ≡ joint room f f′ (x ∷ []) → g s ≡ tell f x s → g′ s ≡ tell f′ x s → joint (room - n) g g′ s ≡ tell (joint room f f′) x s
+  joint-added room n {f} {f′} g g′ w v took e e′ = ap (λ m. joint (room - m) g g′ s) took ∙ ap (min (room - joint room f f′ (x ∷ []))) (omega (arith, e, e′, told-plus w v)) ∙ sym (told-capped room (λ t. f t + f′ t))
 
   -- so a capped residual stays a capped residual
   pub told-room : (room : ℕ) {f : List A → ℕ} → Submodular f → (a : List A) → tell (capped room (residual f a)) x s ≡ capped (room - capped room (residual f a) (x ∷ [])) (residual f (x ∷ a)) s

@@ -1,6 +1,5 @@
-use mathlib.Core.Path.{ap, ap₂, _∙_}
-use Prim.Native.Nat.{_+_, _-_, min}
-use Rattle.kinds.specs.Objectives.{joint}
+use mathlib.Core.Path.{ap₂}
+use Prim.Native.Nat.{_+_, min}
 use Rattle.kinds.proofs.Told.{joint-added}
 use Rattle.composites.proofs.sum.SumObjective.add.Needs as need
 
@@ -11,7 +10,5 @@ returns g c =
     let second = g .W·Objective .laws (w .second) .left .submodular in
     record {
       whole = λ s. ap₂ (λ m n. min 4294967295 (m + n)) (c .add .ensures .whole s) (c .add-2 .ensures .whole s);
-      left =
-          λ s. ap (λ n. joint (w .room - n) (g .V·Objective .residual (c .add .last .self)) (g .W·Objective .residual (c .add-2 .last .self)) s) (c .gain .ensures)
-          ∙ joint-added (c .args .x .now) s (w .room) (g .V·Objective .residual (c .add .last .self)) (g .W·Objective .residual (c .add-2 .last .self)) first second (c .add .ensures .left s) (c .add-2 .ensures .left s);
+      left = λ s. joint-added (c .args .x .now) s (w .room) (c .gain .result) (g .V·Objective .residual (c .add .last .self)) (g .W·Objective .residual (c .add-2 .last .self)) first second (c .gain .ensures) (c .add .ensures .left s) (c .add-2 .ensures .left s);
     }
