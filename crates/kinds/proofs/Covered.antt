@@ -11,16 +11,16 @@ use lib.Bits.{bitAnd, bitOr, and-step}
 use lib.Dec.{eqb}
 use lib.ListN.{length, getD}
 use Rattle.std.specs.Iters.{counting}
-use Rattle.std.specs.shelf.Lists.{All, sumBy}
+use Rattle.std.specs.shelf.Lists.{sumBy}
 use Rattle.std.proofs.shelf.Bits.{and-shr, shr-shr}
-use Rattle.std.proofs.shelf.Counted.{length-map-counting, getD-map-counting, sumBy-map-counting-more}
+use Rattle.std.proofs.shelf.Counted.{length-map-counting, getD-map-counting}
 use Rattle.std.proofs.shelf.Elements.{all-from-getD}
-use Rattle.std.proofs.shelf.Lists.{map-id, getD-past, ext-getD}
+use Rattle.std.proofs.shelf.Lists.{getD-past, ext-getD}
 use Rattle.std.proofs.shelf.Tests.{cases-lt}
 use Rattle.theory.specs.Laws.{Lawful}
 use Rattle.kinds.specs.Objectives.{some, shows, ofClass, coverage, uncovered}
-use Rattle.kinds.proofs.Gains.{shows-or, sum-adds}
-use Rattle.kinds.proofs.Objectives.{coverage-lawful, coverage-small}
+use Rattle.kinds.proofs.Gains.{shows-or, adds-below}
+use Rattle.kinds.proofs.Objectives.{coverage-lawful, coverage-small, below-more}
 
 cond-same : (b : Bool) (n : ℕ) → cond b n n ≡ n
 cond-same true n = refl
@@ -64,7 +64,7 @@ module _ {A : Type 0} (marks : A → ℕ) (covered : ℕ) (weights : List ℕ) w
   -- once x is added its classes are covered too
   pub coverage-added : (x : A) (s : List A) → coverage marks (uncovered covered weights) (x ∷ s) ≡ coverage marks (uncovered (bitOr covered (marks x)) weights) s + coverage marks (uncovered covered weights) (x ∷ [])
   unfolding coverage
-  coverage-added x s = sum-adds (λ i. ofClass marks (uncovered covered weights) i (x ∷ s)) (λ i. ofClass marks (uncovered (bitOr covered (marks x)) weights) i s) (λ i. ofClass marks (uncovered covered weights) i (x ∷ [])) each (counting 0 64)
+  coverage-added x s = adds-below (λ i. ofClass marks (uncovered covered weights) i (x ∷ s)) (λ i. ofClass marks (uncovered (bitOr covered (marks x)) weights) i s) (λ i. ofClass marks (uncovered covered weights) i (x ∷ [])) 64 (λ i l. each i)
     where
       go : (c m r : Bool) (w : ℕ) → cond (m || r) (cond c 0 w) 0 ≡ cond r (cond (c || m) 0 w) 0 + cond (m || false) (cond c 0 w) 0
       go true true true w = refl
@@ -113,10 +113,7 @@ classesBelow marks weights n s = sumBy (λ i. ofClass marks weights i s) (counti
 
 module _ {A : Type 0} (marks : A → ℕ) (weights : List ℕ) (s : List A) where
   pub classes-more : (n : ℕ) → classesBelow marks weights (n + 1) s ≡ classesBelow marks weights n s + ofClass marks weights n s
-  classes-more n = ap (sumBy of) (sym (map-id (counting 0 (n + 1)))) ∙ sumBy-map-counting-more of (λ i. i) 0 n n (omega arith) ∙ ap (λ is. sumBy of is + of n) (map-id (counting 0 n))
-    where
-      of : ℕ → ℕ
-      of i = ofClass marks weights i s
+  classes-more n = below-more (λ i. ofClass marks weights i s) n
 
   pub classes-all : (n : ℕ) → n ≡ 64 → classesBelow marks weights n s ≡ coverage marks weights s
   unfolding coverage

@@ -4,7 +4,7 @@ use mathlib.Core.Bool.{true, false}
 use mathlib.Core.List.{List, [], _∷_, _++_}
 use Prim.Native.Nat.{ℕ}
 use lib.ListN.{replicate}
-use Rattle.kinds.specs.Objectives.{coverage, facility, concave}
+use Rattle.kinds.specs.Objectives.{coverage, facility, facilityAbove, stepsOf, stepsLeft, concave}
 use Rattle.kinds.specs.Matroids.{partition, laminar}
 
 -- a frame is its set of classes: 3 shows 0 and 1, 2 shows 1; class 2 is shown by none
@@ -17,13 +17,28 @@ liked : facility (λ x. x) (4 ∷ 6 ∷ replicate 62 0 ++ (8 ∷ [])) (0 ∷ 1 �
 unfolding facility
 liked = refl
 
+-- 16 bits hold no more than 65,535
+clipped : facility (λ x. x) (70000 ∷ []) (0 ∷ []) ≡ 65535
+unfolding facility
+clipped = refl
+
+-- view 0 has 5 and view 1 has 1 already
+liked-more : facilityAbove (λ x. x) (4 ∷ 6 ∷ replicate 62 0 ++ (8 ∷ [])) (5 ∷ 1 ∷ []) (0 ∷ 1 ∷ []) ≡ 8
+unfolding facilityAbove
+liked-more = refl
+
 -- two frames of lane 1, one of lane 0, and one of a lane that adds nothing
-stepped : concave (λ x. x) (9 ∷ replicate 7 0 ++ (6 ∷ 5 ∷ 4 ∷ [])) (1 ∷ 0 ∷ 70 ∷ 1 ∷ []) ≡ 20
+stepped : concave (λ x. x) (stepsOf (9 ∷ replicate 7 0 ++ (6 ∷ 5 ∷ 4 ∷ []))) (1 ∷ 0 ∷ 70 ∷ 1 ∷ []) ≡ 20
 unfolding concave
 stepped = refl
 
+-- one frame of lane 1 is added already
+stepped-on : concave (λ x. x) (stepsLeft (0 ∷ 1 ∷ []) (9 ∷ replicate 7 0 ++ (6 ∷ 5 ∷ 4 ∷ []))) (1 ∷ 0 ∷ 1 ∷ []) ≡ 18
+unfolding concave
+stepped-on = refl
+
 -- nine frames have the value of eight steps
-filled : concave (λ x. x) (replicate 512 1) (replicate 9 3) ≡ 8
+filled : concave (λ x. x) (stepsOf (replicate 512 1)) (replicate 9 3) ≡ 8
 unfolding concave
 filled = refl
 

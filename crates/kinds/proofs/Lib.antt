@@ -4,6 +4,8 @@ pub mod Objectives
 pub mod Told
 pub mod Gains
 pub mod Covered
+pub mod Located
+pub mod Stepped
 pub mod Parts
 pub mod Boxes
 pub mod Caps

@@ -6,8 +6,9 @@ use native.Mathlib.Nat.{mul-sub}
 use native.Mathlib.Omega.{arith}
 use Rattle.std.proofs.shelf.Lists.{append-nil, append-assoc}
 use Rattle.theory.specs.Bag.{Orderless}
-use Rattle.theory.specs.Laws.{Submodular}
-use Rattle.kinds.specs.Objectives.{Bounded, capped, residual, tell}
+use Rattle.theory.specs.Laws.{Submodular, Lawful}
+use Rattle.kinds.specs.Objectives.{Bounded, capped, joint, residual, tell}
+use Rattle.kinds.proofs.Lawful.{plus-lawful, min-lawful}
 
 -- x may be taken to the front
 pub front : {A B : Type 0} (h : List A → B) → Orderless h → (a : List A) (x : A) (s : List A) → h (a ++ (x ∷ s)) ≡ h (x ∷ (a ++ s))
@@ -58,6 +59,18 @@ module _ {A : Type 0} (x : A) (s : List A) where
   pub told-capped : (room : ℕ) (f : List A → ℕ) → tell (capped room f) x s ≡ capped (room - capped room f (x ∷ [])) (tell f x) s
   told-capped room f = omega arith
 
+  -- two under one cap were f and f′ and are g and g′, now that x is added and took n of the room
+  pub joint-added : (room n : ℕ) {f f′ : List A → ℕ} (g g′ : List A → ℕ) → Submodular f → Submodular f′ → n ≡ joint room f f′ (x ∷ []) → g s ≡ tell f x s → g′ s ≡ tell f′ x s → joint (room - n) g g′ s ≡ tell (joint room f f′) x s
+  joint-added room n {f} {f′} g g′ w v took e e′ = ap (λ m. joint (room - m) g g′ s) took ∙ ap (min (room - joint room f f′ (x ∷ []))) (omega (arith, e, e′, told-plus w v)) ∙ sym (told-capped room (λ t. f t + f′ t))
+
   -- so a capped residual stays a capped residual
   pub told-room : (room : ℕ) {f : List A → ℕ} → Submodular f → (a : List A) → tell (capped room (residual f a)) x s ≡ capped (room - capped room (residual f a) (x ∷ [])) (residual f (x ∷ a)) s
   told-room room {f} w a = told-capped room (residual f a) ∙ ap (min (room - capped room (residual f a) (x ∷ []))) (told-residual w a x s)
+
+-- a cap over what is lawful, and the sum of two under a cap, are lawful
+module _ {A : Type 0} where
+  pub capped-keeps : (c : ℕ) {f : List A → ℕ} → Lawful f → Lawful (capped c f)
+  capped-keeps c w = record { submodular = min-lawful (w .submodular) c; bounded = λ s. omega (arith, w .bounded s) }
+
+  pub joint-keeps : (m : ℕ) {f g : List A → ℕ} → m ≤ 4294967295 → Lawful f → Lawful g → Lawful (joint m f g)
+  joint-keeps m h w v = record { submodular = min-lawful (plus-lawful (w .submodular) (v .submodular)) m; bounded = λ s. omega arith }

@@ -1,0 +1,3 @@
+pub mod capped;
+mod room;
+pub mod sum;
