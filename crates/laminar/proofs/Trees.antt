@@ -1,15 +1,14 @@
 -- What it means that the settings of a tree are refused, or not. Assumes nothing.
 use mathlib.Core.Path.{_≡_, sym, ap, _∙_}
-use mathlib.Core.Bool.{Bool, true, false, cond}
+use mathlib.Core.Bool.{true, false, cond}
 use mathlib.Core.List.{List, [], _∷_}
 use mathlib.Core.Logic.{⊎-elim}
 use Prim.Native.Nat.{ℕ, zero, suc, _+_, _≤_, _<_}
 use native.Mathlib.Omega.{arith}
 use lib.Dec.{eqb}
 use lib.ListN.{length, getD, drop}
-use Rattle.std.specs.shelf.Lists.{All}
 use Rattle.std.proofs.shelf.Lists.{at-drop-more, getD-default, getD-past}
-use Rattle.std.proofs.shelf.Tests.{cases-bool, cases-lt, eqb-true, eq-eqb, ne-eqb, cond-true, cond-false}
+use Rattle.std.proofs.shelf.Tests.{cases-bool, cases-eq, cases-lt, eq-eqb, ne-eqb, cond-true, cond-false}
 use Rattle.std.specs.declared.option.Option.{Option}
 use Rattle.std.specs.declared.option.Option.the-variants.{Some, None}
 use Rattle.frames.specs.declared.refusal.Refusal.the-variants.{Miscount, BadParent}
@@ -57,7 +56,11 @@ or-none (Some fault) other e = absurd (some-none fault e)
 -- each box, counted from b on, may have its parent; a box past the end has none
 bad-none : (b : ℕ) (ps : List ℕ) → firstBadParent b ps ≡ None → (k : ℕ) → mayHold (b + k) (getD ps k 255) ≡ true
 bad-none b [] e k = λ i. true
-bad-none b (p ∷ ps) e k = ⊎-elim (λ t. at k t (bad-none (b + 1) ps (sym (cond-true (mayHold b p) (firstBadParent (b + 1) ps) (Some (record { refusal = BadParent; index = b })) t) ∙ e))) (λ t. absurd (some-none (record { refusal = BadParent; index = b }) (sym (cond-false (mayHold b p) (firstBadParent (b + 1) ps) (Some (record { refusal = BadParent; index = b })) t) ∙ e))) (cases-bool (mayHold b p))
+bad-none b (p ∷ ps) e k =
+    ⊎-elim
+    (λ t. at k t (bad-none (b + 1) ps (sym (cond-true (mayHold b p) (firstBadParent (b + 1) ps) (Some (record { refusal = BadParent; index = b })) t) ∙ e)))
+    (λ t. absurd (some-none (record { refusal = BadParent; index = b }) (sym (cond-false (mayHold b p) (firstBadParent (b + 1) ps) (Some (record { refusal = BadParent; index = b })) t) ∙ e)))
+    (cases-bool (mayHold b p))
   where
     at : (k : ℕ) → mayHold b p ≡ true → ((i : ℕ) → mayHold (b + 1 + i) (getD ps i 255) ≡ true) → mayHold (b + k) (getD (p ∷ ps) k 255) ≡ true
     at zero t rest = ap (λ n. mayHold n p) (omega arith) ∙ t
@@ -71,11 +74,12 @@ pub record Accepted (caps parents : List ℕ) : Type 0 where
   pub tree : (b : ℕ) → mayHold b (parentOf parents b) ≡ true
 
 pub tree-accepted : (caps parents : List ℕ) → None ≡ laminarFault caps parents → Accepted caps parents
-tree-accepted caps parents e = ⊎-elim (λ t. from (eqb-true (length parents) 96 t)) (λ t. absurd (some-none (record { refusal = Miscount; index = 0 }) (tree-miscount caps parents (λ f. absurd (differ t (eq-eqb (length parents) 96 f))) ∙ sym e))) (cases-bool (eqb (length parents) 96))
+tree-accepted caps parents e =
+    ⊎-elim
+    (λ long. from long)
+    (λ other. absurd (some-none (record { refusal = Miscount; index = 0 }) (tree-miscount caps parents other ∙ sym e)))
+    (cases-eq (length parents) 96)
   where
-    differ : {b : Bool} → b ≡ false → b ≡ true → ⊥
-    differ f t = let z : true ≡ false = sym t ∙ f in let y : _≡_ {A = ℕ} 0 1 = cc in omega arith
-
     from : length parents ≡ 96 → Accepted caps parents
     from paired =
         let none = or-none (numbersFault 96 48 caps) (firstBadParent 0 parents) (tree-counted caps parents paired ∙ sym e) in
@@ -84,4 +88,8 @@ tree-accepted caps parents e = ⊎-elim (λ t. from (eqb-true (length parents) 9
 
 -- a parent fits a byte
 pub parents-low : (parents : List ℕ) → Parents parents → (i : ℕ) → getD parents i 0 ≤ 255
-parents-low parents law i = ⊎-elim (λ l. omega (arith, law .1 i l, getD-default parents i 255 0 (omega (arith, law .0)))) (λ l. omega (arith, getD-past parents i 0 (omega (arith, law .0)))) (cases-lt i 96)
+parents-low parents law i =
+    ⊎-elim
+    (λ l. omega (arith, law .1 i l, getD-default parents i 255 0 (omega (arith, law .0))))
+    (λ l. omega (arith, getD-past parents i 0 (omega (arith, law .0))))
+    (cases-lt i 96)

@@ -37,7 +37,11 @@ module _ (parents : List ℕ) (law : Parents parents) (before left : List ℕ) (
 
   -- b has none
   pub up-full : b < 96 → getD left b 0 ≡ 0 → (j : ℕ) × (j < 96) × (liesIn parents low j ≡ true) × (getD before j 0 ≡ 0)
-  up-full l none = (b, l, ⊎-elim (λ e. e) (λ e. absurd (omega (arith, way b l, one (lies-self parents law b), one e))) (cases-bool (liesIn parents low b)), ⊎-elim (λ e. omega (arith, way b l, one (lies-self parents law b), one e)) (λ e. absurd (omega (arith, way b l, one (lies-self parents law b), one e))) (cases-bool (liesIn parents low b)))
+  up-full l none =
+      ⊎-elim
+      (λ e. (b, l, e, omega (arith, way b l, one (lies-self parents law b), one e)))
+      (λ e. absurd (omega (arith, way b l, one (lies-self parents law b), one e)))
+      (cases-bool (liesIn parents low b))
 
   -- the top is passed
   pub up-all : 96 ≤ b → (j : ℕ) → j < 96 → getD left j 0 + cond (liesIn parents low j) 1 0 ≡ getD before j 0
