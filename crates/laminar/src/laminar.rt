@@ -17,6 +17,8 @@ use frames::frame::Frame;
 use frames::setting::SettingFault;
 use matroids::matroid::Matroid;
 
+const LANES: u8 = 64;
+
 // Laminar matroid over a tree of 96 boxes, the first 64 of them the lanes: no box has more frames than its cap. A frame
 // lies in its lane, in that box's parent, and so on up; the parent 255 is none. A lane above 63 has no frames.
 #[derive(Drop)]
@@ -79,7 +81,7 @@ fn takes(parents: &[u8], left: &mut [u8], x: &Frame, chosen: bool) -> bool
     if !chosen {
         return true;
     }
-    if x.lane >= 64 {
+    if x.lane >= LANES {
         return false;
     }
     let mut b = x.lane as usize;

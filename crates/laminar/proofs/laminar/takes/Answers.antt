@@ -10,8 +10,8 @@ use Rattle.kinds.proofs.Meanings.{laminar-takes, laminar-full}
 use Rattle.laminar.proofs.Ways.{up-more, up-full, up-all, parent-above}
 use Rattle.laminar.proofs.laminar.takes.Needs as need
 
-pub returns-then-x-ge64 : need.returns-then-x-ge64
-returns-then-x-ge64 c = λ s.
+pub returns-then-x-ge-LANES : need.returns-then-x-ge-LANES
+returns-then-x-ge-LANES c = λ s.
     let x = c .args .x .now in
     let here = ap (laminar (λ y. y .lane) (c .args .parents .now) (c .args .left .now)) (cond-true (c .args .chosen) (x ∷ s) s (c .if-not-chosen .left)) in
     here ∙ laminar-full (λ y. y .lane) (c .args .parents .now) (c .args .left .now) x s (inl (omega arith))
