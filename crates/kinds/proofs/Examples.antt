@@ -5,7 +5,7 @@ use mathlib.Core.List.{List, [], _∷_, _++_}
 use Prim.Native.Nat.{ℕ}
 use lib.ListN.{replicate}
 use Rattle.kinds.specs.Objectives.{coverage, facility, facilityAbove, stepsOf, stepsLeft, concave}
-use Rattle.kinds.specs.Matroids.{partition, laminar}
+use Rattle.kinds.specs.Matroids.{partition, liesIn, laminar}
 
 -- a frame is its set of classes: 3 shows 0 and 1, 2 shows 1; class 2 is shown by none
 covered : coverage (λ x. x) (5 ∷ 7 ∷ 9 ∷ []) (3 ∷ 2 ∷ []) ≡ 12
@@ -50,15 +50,15 @@ abbrev room : List ℕ
 room = replicate 64 2 ++ (2 ∷ [])
 
 fits : laminar (λ x. x) pairs room (0 ∷ 1 ∷ 5 ∷ []) ≡ true
-unfolding laminar
+unfolding laminar liesIn
 fits = refl
 
 full : laminar (λ x. x) pairs room (0 ∷ 1 ∷ 0 ∷ []) ≡ false
-unfolding laminar
+unfolding laminar liesIn
 full = refl
 
 above : laminar (λ x. x) pairs room (64 ∷ []) ≡ false
-unfolding laminar
+unfolding laminar liesIn
 above = refl
 
 parted : partition (λ x. x) room (0 ∷ 1 ∷ 0 ∷ []) ≡ true

@@ -1,17 +1,18 @@
 -- The matroids of lanes, and of boxes that hold lanes and one another. Assumes nothing.
-use mathlib.Core.Path.{_≡_, refl, sym, subst}
-use mathlib.Core.Bool.{Bool, true}
+use mathlib.Core.Path.{_≡_, refl, sym, ap, subst, _∙_}
+use mathlib.Core.Bool.{Bool, true, false, _&&_, _||_}
 use mathlib.Core.List.{List}
-use mathlib.Core.Logic.{⊎-elim}
+use mathlib.Core.Logic.{_⊎_, inl, inr, ⊎-elim}
 use Prim.Native.Nat.{ℕ, zero, suc, _+_, _≤_, _<_}
 use native.Mathlib.Omega.{arith}
 use lib.Dec.{eqb, ltb}
-use lib.ListN.{getD}
+use lib.ListN.{length, getD}
 use Rattle.std.proofs.shelf.Lists.{getD-past}
-use Rattle.std.proofs.shelf.Tests.{cases-lt, eqb-true, or-cases, or-left, or-right}
+use Rattle.std.proofs.shelf.Tests.{cases-bool, cases-lt, eqb-true, eq-eqb, ne-eqb, ltb-true, and-parts, or-cases, or-left, or-right}
+use Rattle.std.proofs.shelf.Ways.{same-from-decides}
 use Rattle.theory.specs.Bag.{Same}
 use Rattle.theory.specs.Laws.{MatroidLaws}
-use Rattle.kinds.specs.Matroids.{inLanes, partition, parentOf, reaches, laminar, Parents}
+use Rattle.kinds.specs.Matroids.{inLanes, partition, parentOf, reaches, liesIn, laminar, mayHold, Parents}
 use Rattle.kinds.proofs.Boxes.{box-matroid, free-matroid}
 use Rattle.kinds.proofs.Caps.{Nests, splits-none, under-matroid}
 
@@ -73,7 +74,44 @@ module _ (parents : List ℕ) (law : Parents parents) where
   reaches-nests : {A : Type 0} (lane : A → ℕ) (k : ℕ) → 95 ≤ k → (i j : ℕ) → i < 96 → j < i → Nests (λ x. reaches parents k (lane x) j) (λ x. reaches parents k (lane x) i)
   reaches-nests lane k far i j li l x h g y e = let on = reaches-next k (lane x) j i li l h g in reaches-on k (on .0) (lane y) j i (omega arith) li (omega arith) e (on .1)
 
+  -- each box lies in itself
+  pub lies-self : (b : ℕ) → liesIn parents b b ≡ true
+  unfolding liesIn
+  lies-self b = reaches-self parents 96 b b (eq-eqb b b refl)
+
+  -- what is no box lies in none
+  pub lies-nowhere : (b j : ℕ) → 96 ≤ b → j < 96 → liesIn parents b j ≡ false
+  unfolding liesIn
+  lies-nowhere b j out l = ⊎-elim (λ e. absurd (omega (arith, reaches-up 96 b j l e))) (λ e. e) (cases-bool (reaches parents 96 b j))
+
+  -- the parent of b does not lie in b
+  pub parent-outside : (b : ℕ) → b < 96 → liesIn parents (parentOf parents b) b ≡ false
+  unfolding liesIn
+  parent-outside b l = ⊎-elim (λ e. absurd (omega (arith, parent-up 96 b b l e))) (λ e. e) (cases-bool (reaches parents 96 (parentOf parents b) b))
+
+  -- but for b itself, b lies where its parent does
+  pub lies-on : (b j : ℕ) → j < 96 → (b ≡ j → ⊥) → liesIn parents b j ≡ liesIn parents (parentOf parents b) j
+  unfolding liesIn
+  lies-on b j l other = both (reaches parents 95 (parentOf parents b) j) (reaches parents 96 (parentOf parents b) j) (reaches-enough 95 96 (parentOf parents b) j l (omega arith)) (reaches-enough 96 95 (parentOf parents b) j l (omega arith))
+    where
+      both : (p q : Bool) → (p ≡ true → q ≡ true) → (q ≡ true → p ≡ true) → (eqb b j || p) ≡ q
+      both p q f g = ap (λ e. e || p) (ne-eqb b j other) ∙ same-from-decides p q (f, g) (λ e. e, λ e. e)
+
+-- the test of each box and its parent
+pub parents-from : (parents : List ℕ) → length parents ≡ 96 → ((b : ℕ) → mayHold b (parentOf parents b) ≡ true) → Parents parents
+parents-from parents long h = (long, λ b l. each b (parentOf parents b) (h b))
+  where
+    each : (b p : ℕ) → mayHold b p ≡ true → (p ≡ 255) ⊎ ((b < p) × (64 ≤ p) × (p < 96))
+    each b p t =
+        ⊎-elim
+        (λ e. inl (eqb-true p 255 e))
+        (λ e.
+        let one = and-parts (ltb b p) (ltb 63 p && ltb p 96) e in
+        let two = and-parts (ltb 63 p) (ltb p 96) (one .1) in
+        inr (ltb-true b p (one .0), omega (arith, ltb-true 63 p (two .0)), ltb-true p 96 (two .1)))
+        (or-cases (eqb p 255) (ltb b p && (ltb 63 p && ltb p 96)) t)
+
 module _ {A : Type 0} {same : A → A → Bool} (eq : Same same) (lane : A → ℕ) where
   pub laminar-matroid : (parents caps : List ℕ) → Parents parents → MatroidLaws same (laminar lane parents caps)
-  unfolding laminar
+  unfolding laminar liesIn
   laminar-matroid parents caps law = lanes-matroid eq lane (λ j x. reaches parents 96 (lane x) j) caps 96 (reaches-nests parents law lane 96 (omega arith))

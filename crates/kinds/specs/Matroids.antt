@@ -34,9 +34,17 @@ abbrev pub reaches : List ℕ → ℕ → ℕ → ℕ → Bool
 reaches parents zero b j = eqb b j
 reaches parents (suc k) b j = eqb b j || reaches parents k (parentOf parents b) j
 
+-- box b is j or lies in it: as many times up as there are boxes
+unfoldable pub liesIn : List ℕ → ℕ → ℕ → Bool
+liesIn parents b j = reaches parents 96 b j
+
 -- no box has more frames than its cap; the first 64 boxes are the lanes
 unfoldable pub laminar : {A : Type 0} → (A → ℕ) → List ℕ → List ℕ → List A → Bool
-laminar lane parents caps s = inLanes lane (λ j x. reaches parents 96 (lane x) j) caps 96 s
+laminar lane parents caps s = inLanes lane (λ j x. liesIn parents (lane x) j) caps 96 s
+
+-- box b may have the parent p: none, or a box from 64 to 95 with a number above b
+abbrev pub mayHold : ℕ → ℕ → Bool
+mayHold b p = eqb p 255 || (ltb b p && (ltb 63 p && ltb p 96))
 
 -- a box has no parent, or one of the boxes from 64 to 95, which stands above it
 abbrev pub Parents : List ℕ → Type 0

@@ -14,6 +14,8 @@ use objectives::coverage::Coverage;
 use objectives::coverage::CoverageObjective;
 
 #[cfg(test)]
+mod matroid_tests;
+#[cfg(test)]
 mod tests;
 
 pub type Pile<'a> = Sum<Capped<FacilityLocation<'a>>, Sum<Coverage, ConcaveCounts>>;

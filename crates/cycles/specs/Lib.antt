@@ -1,0 +1,3 @@
+pub mod Graphs
+pub mod Labels
+pub mod Claims

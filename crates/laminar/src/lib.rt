@@ -1,0 +1,2 @@
+pub mod laminar;
+mod tree;

@@ -1,0 +1,2 @@
+pub mod direct_sum;
+pub mod truncation;
