@@ -16,6 +16,8 @@ use objectives::coverage::CoverageObjective;
 #[cfg(test)]
 mod matroid_tests;
 #[cfg(test)]
+mod picked;
+#[cfg(test)]
 mod tests;
 
 pub type Pile<'a> = Sum<Capped<FacilityLocation<'a>>, Sum<Coverage, ConcaveCounts>>;

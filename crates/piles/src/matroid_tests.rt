@@ -40,7 +40,10 @@ fn on_lane(lane: u8) -> Frame {
 }
 
 // At most four frames: on side 0 no even part, on side 1 at most two from lanes 0 and 1 together.
-fn pile() -> Result<Truncation<DirectSum<GraphicMatroid, LaminarMatroid>>, SettingFault> {
+pub(crate) fn matroid_pile() -> Result<
+    Truncation<DirectSum<GraphicMatroid, LaminarMatroid>>,
+    SettingFault,
+> {
     let mut caps = [48; 96];
     caps[64] = 2;
     let mut parents = [255; 96];
@@ -58,7 +61,7 @@ fn pile() -> Result<Truncation<DirectSum<GraphicMatroid, LaminarMatroid>>, Setti
 
 #[test]
 fn pile_answers() -> Result<(), Fail> {
-    let m = pile()?;
+    let m = matroid_pile()?;
     let list = [
         edge(1, 2),
         edge(2, 3),

@@ -17,7 +17,7 @@ fn frame(marks: u64, look: u8, lane: u8) -> Frame {
 }
 
 // Look 0 is like view 0 by 300 and view 1 by 200, look 1 by 100 and 500; the table ends there.
-fn likenesses() -> [u16; 66] {
+pub(crate) fn likenesses() -> [u16; 66] {
     let mut table = [0; 66];
     table[0] = 300;
     table[1] = 200;
@@ -27,7 +27,7 @@ fn likenesses() -> [u16; 66] {
 }
 
 // Lane 0 has the steps 7 and 3, lane 1 the steps 5, 5 and 1.
-fn steps() -> [u32; 512] {
+pub(crate) fn steps() -> [u32; 512] {
     let mut steps = [0; 512];
     steps[0] = 7;
     steps[1] = 3;
