@@ -1,0 +1,4 @@
+pub mod atmost;
+pub mod counting;
+pub mod framecount;
+pub mod tries;
