@@ -1,6 +1,7 @@
 use mathlib.Core.Path.{_≡_, sym, ap, ap₂, subst, _∙_}
 use mathlib.Core.List.{[]}
-use Prim.Native.Nat.{ℕ, _≤_}
+use Prim.Native.Nat.{_≤_}
+use native.Mathlib.Omega.{arith}
 use Rattle.std.specs.declared.option.Option.the-variants.{None}
 use Rattle.std.specs.shelf.Lists.{sumBy}
 use Rattle.theory.specs.Digits.{binaryLength}
@@ -23,7 +24,7 @@ returns c =
     let took : c .counts .result .took ≡ p .took = ap (λ k. k .took) (c .counts .ensures .value) in
     record {
       took = took ∙ label .accepted;
-      least = took ∙ label .accepted ∙ taken-least (c .args .cap) (c .args .most) n (arrivals h);
+      least = omega (arith, took, label .accepted, taken-least (c .args .cap) (c .args .most) n (arrivals h));
       few = subst (λ es. c .counts .result .took ≤ sumBy (λ e. binaryLength (e .1)) es) (label .kept) (subst (λ k. k ≤ sumBy (λ e. binaryLength (e .1)) (held (p .table))) (sym took) (label .few));
       sheet = ap (λ r. r .0) (c .run-ran .ensures .left) ∙ ap₂ (λ k l. runOn (countUpTo k) (uniform l) n [] h (c .args .sheet .now) None .0) cap most;
     }
