@@ -1,8 +1,8 @@
 #[cfg(test)]
 mod tests {
-    use crate::counting::counted;
     use exchange::size::Size;
     use frames::frame::Frame;
+    use outside::counting::counted;
     use runs::call::Call;
     use std::test::*;
 
