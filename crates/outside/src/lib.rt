@@ -1,0 +1,3 @@
+pub mod atmost;
+pub mod counting;
+pub mod framecount;
