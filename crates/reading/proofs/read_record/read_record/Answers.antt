@@ -73,26 +73,26 @@ pub returns-in-Break-side : need.returns-in-Break-side
 returns-in-Break-side c =
     let text = c .args .text .now in
     let at = c .args .at in
-    let v1 = c .in-Continue-number .ensures tt in
-    let v2 = c .in-Continue-marks .ensures tt in
-    let v3 = c .in-Continue-look .ensures tt in
-    let v4 = c .in-Continue-lane .ensures tt in
-    let v5 = c .in-Continue-tail .ensures tt in
     let v6 = c .in-Continue-head .ensures tt in
+    let v5 = c .in-Continue-tail .ensures tt in
+    let v4 = c .in-Continue-lane .ensures tt in
+    let v3 = c .in-Continue-look .ensures tt in
+    let v2 = c .in-Continue-marks .ensures tt in
+    let v1 = c .in-Continue-number .ensures tt in
     let f = c .in-Break-side .ensures tt in
     let p = refused text at (c .args .«record») (c .from-residual-in-Break-side .result) (c .in-Break-side .field-0 .0) Side (c .in-Continue-head .next) (f .0) (stops-7 (drop at text) (c .in-Continue-number .number) (drop (c .in-Continue-number .next) text) (v1 .reads) (c .in-Continue-marks .marks) (drop (c .in-Continue-marks .next) text) (v2 .reads) (c .in-Continue-look .look) (drop (c .in-Continue-look .next) text) (v3 .reads) (c .in-Continue-lane .lane) (drop (c .in-Continue-lane .next) text) (v4 .reads) (c .in-Continue-tail .tail) (drop (c .in-Continue-tail .next) text) (v5 .reads) (c .in-Continue-head .head) (drop (c .in-Continue-head .next) text) (v6 .reads) (f .0) (f .1)) (f .2) (omega (arith, v1 .grows, v2 .grows, v3 .grows, v4 .grows, v5 .grows, v6 .grows, v6 .within)) (omega (arith, v1 .grows, v2 .grows, v3 .grows, v4 .grows, v5 .grows, v6 .grows, v6 .within)) (c .from-residual-in-Break-side .ensures .1) in
     record { reads = p .0; means = p .1 }
 
 pub returns : need.returns
 returns c =
+    let v7 = c .in-Continue-side .ensures tt in
+    let v6 = c .in-Continue-head .ensures tt in
+    let v5 = c .in-Continue-tail .ensures tt in
+    let v4 = c .in-Continue-lane .ensures tt in
+    let v3 = c .in-Continue-look .ensures tt in
+    let v2 = c .in-Continue-marks .ensures tt in
+    let v1 = c .in-Continue-number .ensures tt in
     let text = c .args .text .now in
     let at = c .args .at in
-    let v1 = c .in-Continue-number .ensures tt in
-    let v2 = c .in-Continue-marks .ensures tt in
-    let v3 = c .in-Continue-look .ensures tt in
-    let v4 = c .in-Continue-lane .ensures tt in
-    let v5 = c .in-Continue-tail .ensures tt in
-    let v6 = c .in-Continue-head .ensures tt in
-    let v7 = c .in-Continue-side .ensures tt in
     let p = stands text at _ (c .in-Continue-side .next) (seven-lines (drop at text) (c .in-Continue-number .number) (drop (c .in-Continue-number .next) text) (v1 .reads) (c .in-Continue-marks .marks) (drop (c .in-Continue-marks .next) text) (v2 .reads) (c .in-Continue-look .look) (drop (c .in-Continue-look .next) text) (v3 .reads) (c .in-Continue-lane .lane) (drop (c .in-Continue-lane .next) text) (v4 .reads) (c .in-Continue-tail .tail) (drop (c .in-Continue-tail .next) text) (v5 .reads) (c .in-Continue-head .head) (drop (c .in-Continue-head .next) text) (v6 .reads) (c .in-Continue-side .side) (drop (c .in-Continue-side .next) text) (v7 .reads)) (omega (arith, v1 .grows, v2 .grows, v3 .grows, v4 .grows, v5 .grows, v6 .grows, v7 .grows)) (v7 .within) in
     record { reads = p .0; means = p .1 }
