@@ -8,7 +8,7 @@ use faults::fault::{RecordFault, TextFault};
 use frames::frame::Frame;
 use matroids::matroid::Matroid;
 use objectives::objective::Objective;
-use reading::records::Records;
+use reading::reader::Records;
 
 impl<W: Objective, R: Matroid> Picker<W, R> {
     // Takes in the frame of a record, unless the shift is full.

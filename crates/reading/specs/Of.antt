@@ -1,6 +1,6 @@
 -- How far the reading of a text has come. Assumes nothing.
 use Rattle.std.specs.Prelude.{ℕ, List}
-use Rattle.reading.specs.declared.records.Records.{Records}
+use Rattle.reading.specs.declared.reader.Records.{Records}
 
 abbrev pub text_of : Records → List ℕ
 text_of r = r.text.now

@@ -1,3 +1,3 @@
 mod next;
 mod progress;
-pub mod records;
+pub mod reader;

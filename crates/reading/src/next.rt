@@ -2,7 +2,7 @@ ghost use Rattle.std.specs.Prelude.{◌≡◌, ℕ};
 ghost use Rattle.reading.specs.Of.{text_of, start_of, count_of};
 ghost use Rattle.reading.specs.Texts.{Next, NextRead};
 
-use crate::records::Records;
+use crate::reader::Records;
 use faults::fault::RecordFault;
 use frames::frame::Frame;
 use parsing::read_record::read_record;

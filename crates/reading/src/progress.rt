@@ -1,7 +1,7 @@
 ghost use Rattle.std.specs.Prelude.{◌≡◌, ℕ};
 ghost use Rattle.reading.specs.Of.{text_of, start_of, count_of};
 
-use crate::records::Records;
+use crate::reader::Records;
 
 impl<'a> Records<'a> {
     // All of a text's records are still to be read.

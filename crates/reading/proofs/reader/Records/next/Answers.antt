@@ -1,7 +1,7 @@
 use Rattle.std.proofs.Common.{◌≡◌, ◌+◌, ◌<◌, [], length, drop, refl, arith}
 use Rattle.std.proofs.lemmas.List.{drop_all}
 use Rattle.reading.proofs.Turns.{next_by_text, next_refused}
-use Rattle.reading.proofs.records.Records.next.Goals as goal
+use Rattle.reading.proofs.reader.Records.next.Goals as goal
 
 pub returns-then-self : goal.returns-then-self
 returns-then-self c =

@@ -1,5 +1,5 @@
 use Rattle.std.proofs.Common.{refl}
-use Rattle.reading.proofs.records.Records.count.Goals as goal
+use Rattle.reading.proofs.reader.Records.start.Goals as goal
 
 pub returns : goal.returns
 returns c = refl
