@@ -6,8 +6,8 @@ use Rattle.concave.proofs.setting.check_steps.Goals.{else-i-ne0-via-then-i-ne0+e
 pub returns-then-steps-ne512 : goal.returns-then-steps-ne512
 returns-then-steps-ne512 c = record { fault = steps_miscount 8388607 512 c.args.steps.now c.if-steps-ne512.true; accepted = tt }
 
-pub returns-then-step-gt-HIGHEST-STEP : goal.returns-then-step-gt-HIGHEST-STEP
-returns-then-step-gt-HIGHEST-STEP c =
+pub returns-then-step-gt-HIGHEST_STEP : goal.returns-then-step-gt-HIGHEST_STEP
+returns-then-step-gt-HIGHEST_STEP c =
     record {
       fault = sym (steps_over 8388607 c.args.steps.now c.loop-i.i c.loop-i.before (omega arith) (omega arith)) ∙ c.loop-i.invariant ∙ steps_counted 8388607 512 c.args.steps.now (omega arith);
       accepted = tt;

@@ -9,7 +9,7 @@ use Rattle.exchange.proofs.Search.{search_barred, search_heavy, search_found}
 use Rattle.kept.proofs.Tables.{length_entries, length-gains}
 use Rattle.exchange.proofs.Asked.{row_but}
 use Rattle.exchange.proofs.judge.lightest.Goals as goal
-use Rattle.exchange.proofs.judge.lightest.Goals.{then-is-lighter+then-independent, else-is-lighter, else-is-lighter-via-then-is-lighter+else-independent, else-is-lighter-via-else-is-lighter}
+use Rattle.exchange.proofs.judge.lightest.Goals.{then-is_lighter+then-independent, else-is_lighter, else-is_lighter-via-then-is_lighter+else-independent, else-is_lighter-via-else-is_lighter}
 
 pub loop-p-preserved : goal.loop-p-preserved
 loop-p-preserved g c =
@@ -23,11 +23,11 @@ loop-p-preserved g c =
     let front : row ≡ x ∷ frames (held t) = c.requires ∙ ap (λ (r : List Frame). get_or r 0 no_frame ∷ frames (held t)) (sym c.requires) in
     let counts : ℕ → Bool = may_take P (held t) x in
     let asked : (b : Bool) (m : ℕ) → b ≡ P (chosen row m) → m ≡ 2 ^ (n + 1) - 1 - 2 ^ (p + 1) → b ≡ counts p = λ b m e k. e ∙ ap (λ m. P (chosen row m)) k ∙ ap P (row_but t n c.len-n.ensures x row front p h) in
-    let found : LightestBelow counts (gains (held t)) (p + 1) c.if-is-lighter.best = elim c.if-is-lighter.branch [
-      | then-is-lighter+then-independent w ↦ subst (LightestBelow counts (gains (held t)) (p + 1)) (sym w.best-is) (search_found counts (gains (held t)) p c.loop-p.best (sym c.is-lighter.ensures ∙ w.if-is-lighter.true) (sym (asked _ _ w.independent.ensures w.all-but.ensures) ∙ w.if-independent.true) c.loop-p.invariant.1)
-      | else-is-lighter w ↦ subst (LightestBelow counts (gains (held t)) (p + 1)) (sym w.best-is) (elim w.else-is-lighter.branch [
-        | else-is-lighter-via-then-is-lighter+else-independent w' ↦ search_barred counts (gains (held t)) p c.loop-p.best (sym (asked _ _ w'.independent.ensures w'.all-but.ensures) ∙ w'.if-independent.false) c.loop-p.invariant.1
-        | else-is-lighter-via-else-is-lighter w' ↦ search_heavy counts (gains (held t)) p c.loop-p.best (sym c.is-lighter.ensures ∙ w'.if-is-lighter.false) c.loop-p.invariant.1
+    let found : LightestBelow counts (gains (held t)) (p + 1) c.if-is_lighter.best = elim c.if-is_lighter.branch [
+      | then-is_lighter+then-independent w ↦ subst (LightestBelow counts (gains (held t)) (p + 1)) (sym w.best-is) (search_found counts (gains (held t)) p c.loop-p.best (sym c.is_lighter.ensures ∙ w.if-is_lighter.true) (sym (asked _ _ w.independent.ensures w.all_but.ensures) ∙ w.if-independent.true) c.loop-p.invariant.1)
+      | else-is_lighter w ↦ subst (LightestBelow counts (gains (held t)) (p + 1)) (sym w.best-is) (elim w.else-is_lighter.branch [
+        | else-is_lighter-via-then-is_lighter+else-independent w' ↦ search_barred counts (gains (held t)) p c.loop-p.best (sym (asked _ _ w'.independent.ensures w'.all_but.ensures) ∙ w'.if-independent.false) c.loop-p.invariant.1
+        | else-is_lighter-via-else-is_lighter w' ↦ search_heavy counts (gains (held t)) p c.loop-p.best (sym c.is_lighter.ensures ∙ w'.if-is_lighter.false) c.loop-p.invariant.1
       ])
     ] in
     (omega arith, found)

@@ -2,7 +2,7 @@ use Rattle.std.proofs.Common.{◌<◌, arith}
 use Rattle.std.proofs.lemmas.Nat.{one_shl, pow_below}
 use Rattle.exchange.proofs.rows.all_but.Goals as goal
 
-pub overflow-sub-result : goal.overflow-sub-result
-overflow-sub-result c =
+pub overflow_sub-result : goal.overflow_sub-result
+overflow_sub-result c =
     let h : c.args.p < 64 = omega (arith, c.requires.n, c.requires.p) in
     omega (arith, one_shl c.args.p 64 h, pow_below c.args.p c.args.n c.requires.p, c.all.ensures)

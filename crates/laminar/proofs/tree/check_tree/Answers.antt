@@ -5,8 +5,8 @@ use Rattle.laminar.proofs.tree.check_tree.Goals as goal
 pub returns-then-parents-ne-BOXES : goal.returns-then-parents-ne-BOXES
 returns-then-parents-ne-BOXES c = tree_miscount c.args.caps.now c.args.parents.now c.if-parents-ne-BOXES.true
 
-pub returns-in-err-check-numbers : goal.returns-in-err-check-numbers
-returns-in-err-check-numbers c = let e = tree_stops c.args.caps.now c.args.parents.now (omega arith) c.in-err-check-numbers.field-0.0 c.in-err-check-numbers.ensures.fault in search rules
+pub returns-in_err-check_numbers : goal.returns-in_err-check_numbers
+returns-in_err-check_numbers c = let e = tree_stops c.args.caps.now c.args.parents.now (omega arith) c.in_err-check_numbers.field-0.0 c.in_err-check_numbers.ensures.fault in search rules
 
 pub returns : goal.returns
-returns c = c.check-parents.ensures ∙ tree_goes c.args.caps.now c.args.parents.now (omega arith) c.in-ok-check-numbers.ensures.fault
+returns c = c.check_parents.ensures ∙ tree_goes c.args.caps.now c.args.parents.now (omega arith) c.in_ok-check_numbers.ensures.fault

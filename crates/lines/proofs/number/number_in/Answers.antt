@@ -7,27 +7,27 @@ use Rattle.lines.proofs.number.number_in.Goals as goal
 
 pub returns-then-d-base : goal.returns-then-d-base
 returns-then-d-base c =
-    sym c.loop-b.invariant.0 ∙ no_digit c.args.base c.args.bytes.now c.loop-b.b-index c.loop-b-test.true (subst (λ (d : ℕ). c.args.base ≤ d) c.digit-of-d.ensures c.if-d-base.true)
+    sym c.loop-b.invariant.0 ∙ no_digit c.args.base c.args.bytes.now c.loop-b.b-index c.loop-b-test.true (subst (λ (d : ℕ). c.args.base ≤ d) c.digit_of-d.ensures c.if-d-base.true)
 
-small : (c : goal.Else-d-base) → c.loop-b.n * c.args.base + c.digit-of-d.result < 2 ^ (4 * (c.loop-b.b-index + 1))
-small c = four_bits c.loop-b.n c.args.base c.digit-of-d.result c.loop-b.b-index c.loop-b.invariant.2 c.if-d-base.false c.requires.base
+small : (c : goal.Else-d-base) → c.loop-b.n * c.args.base + c.digit_of-d.result < 2 ^ (4 * (c.loop-b.b-index + 1))
+small c = four_bits c.loop-b.n c.args.base c.digit_of-d.result c.loop-b.b-index c.loop-b.invariant.2 c.if-d-base.false c.requires.base
 
-room : (c : goal.Else-d-base) → c.loop-b.n * c.args.base + c.digit-of-d.result < 2 ^ 64
+room : (c : goal.Else-d-base) → c.loop-b.n * c.args.base + c.digit_of-d.result < 2 ^ 64
 room c = omega (arith, small c, sixty_four c.loop-b.b-index (omega arith))
 
-pub overflow-mul-n : goal.overflow-mul-n
-overflow-mul-n c = omega (arith, room c)
+pub overflow_mul-n : goal.overflow_mul-n
+overflow_mul-n c = omega (arith, room c)
 
-pub overflow-add-n : goal.overflow-add-n
-overflow-add-n c = omega (arith, room c)
+pub overflow_add-n : goal.overflow_add-n
+overflow_add-n c = omega (arith, room c)
 
 pub loop-b-preserved : goal.loop-b-preserved
 loop-b-preserved c =
     let bs = c.args.bytes.now in
     let i = c.loop-b.b-index in
-    let d = digits_more c.args.base bs i c.loop-b-test.true (subst (λ (d : ℕ). d < c.args.base) c.digit-of-d.ensures c.if-d-base.false) in
+    let d = digits_more c.args.base bs i c.loop-b-test.true (subst (λ (d : ℕ). d < c.args.base) c.digit_of-d.ensures c.if-d-base.false) in
     let n = number_more c.args.base bs i c.loop-b-test.true c.loop-b.n in
-    let e = ap (λ (x : ℕ). number_from_digits_after c.args.base (c.loop-b.n * c.args.base + x) (map digit (drop (i + 1) bs))) c.digit-of-d.ensures in
+    let e = ap (λ (x : ℕ). number_from_digits_after c.args.base (c.loop-b.n * c.args.base + x) (map digit (drop (i + 1) bs))) c.digit_of-d.ensures in
     (d ∙ c.loop-b.invariant.0, e ∙ (n ∙ c.loop-b.invariant.1), small c)
 
 pub returns : goal.returns

@@ -7,7 +7,7 @@ use Rattle.report.proofs.line.place_lines.Goals as goal
 pub returns : goal.returns
 unfolding place_lines
 returns c =
-    let r = c.record-lines in
+    let r = c.record_lines in
     let place = line_text c.decimal.result in
     let worth = line_text c.decimal-2.result in
     let first = decimal_line (codes "place=") c.args.place in

@@ -7,22 +7,22 @@ use Rattle.report.proofs.Places.{reads_back}
 use Rattle.report.proofs.Rooms.{room_some, room_over, printed_short, printed_whole}
 use Rattle.report.proofs.print.print_digest.Goals as goal
 
-pub returns-in-default : goal.returns-in-default
+pub returns-in_default : goal.returns-in_default
 unfolding digest
-returns-in-default c =
+returns-in_default c =
     let s = count_lines c.args.counts.now in
     let rest = places_from 0 c.args.kept.now in
-    let same = ap length c.count-lines-head.ensures in
-    record { printed = printed_short (s ++ rest) c.args.out.now (λ h. c.in-default.ensures (omega (arith, length-append s rest))); reads_back = let few : length c.args.kept.now < 2 ^ 64 = omega arith in reads_back c.args.counts.now c.args.kept.now few }
+    let same = ap length c.count_lines-head.ensures in
+    record { printed = printed_short (s ++ rest) c.args.out.now (λ h. c.in_default.ensures (omega (arith, length-append s rest))); reads_back = let few : length c.args.kept.now < 2 ^ 64 = omega arith in reads_back c.args.counts.now c.args.kept.now few }
 
-pub returns-then-is-none : goal.returns-then-is-none
+pub returns-then-is_none : goal.returns-then-is_none
 unfolding digest
-returns-then-is-none c =
+returns-then-is_none c =
     let s = count_lines c.args.counts.now in
     let rest = places_from 0 c.args.kept.now in
-    let same = ap length c.count-lines-head.ensures in
+    let same = ap length c.count_lines-head.ensures in
     let room = c.in-Some.ensures in
-    let over = room_over c.room-after-places.result (length rest ≤ c.in-Some.room) _ c.if-is-none.ensures c.room-after-places.ensures in
+    let over = room_over c.room_after_places.result (length rest ≤ c.in-Some.room) _ c.if-is_none.ensures c.room_after_places.ensures in
     record { printed = printed_short (s ++ rest) c.args.out.now (λ h. over (omega (arith, length-append s rest))); reads_back = let few : length c.args.kept.now < 2 ^ 64 = omega arith in reads_back c.args.counts.now c.args.kept.now few }
 
 pub returns : goal.returns
@@ -31,11 +31,11 @@ returns c =
     let s = count_lines c.args.counts.now in
     let rest = places_from 0 c.args.kept.now in
     let before = c.args.out.now in
-    let head = c.count-lines-head in
-    let p = c.put-lines-at in
-    let q = c.put-places in
+    let head = c.count_lines-head in
+    let p = c.put_lines-at in
+    let q = c.put_places in
     let same = ap length head.ensures in
-    let fits = room_some c.room-after-places.result (length rest ≤ c.in-Some.room) _ c.if-is-none.ensures c.room-after-places.ensures in
+    let fits = room_some c.room_after_places.result (length rest ≤ c.in-Some.room) _ c.if-is_none.ensures c.room_after_places.ensures in
     let room = c.in-Some.ensures in
     let all : length (s ++ rest) ≤ length before = omega (arith, length-append s rest) in
     let l = left_first s rest p.new.out before p.result all (p.ensures.after ∙ ap (λ t. over t before) head.ensures) (p.ensures.len ∙ same) in

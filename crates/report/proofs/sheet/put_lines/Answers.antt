@@ -8,28 +8,28 @@ use Rattle.report.proofs.sheet.put_lines.Goals as goal
 pub loop-line-init : goal.loop-line-init
 loop-line-init c = left_none (lines_text c.args.lines.now) c.args.out.now c.requires
 
-pub put-line-at-requires : goal.put-line-at-requires
-put-line-at-requires c =
+pub put_line-at-requires : goal.put_line-at-requires
+put_line-at-requires c =
     let ls = c.args.lines.now in
     let l = c.loop-line in
     left_room (lines_text ls) _ (line_text (get_or ls l.line-index no_line)) (lines_text (drop (l.line-index + 1) ls)) l.at l.out c.args.out.now
     (lines_more ls l.line-index c.loop-line-test.true) l.invariant
 
-pub overflow-add-at : goal.overflow-add-at
-overflow-add-at c =
+pub overflow_add-at : goal.overflow_add-at
+overflow_add-at c =
     let ls = c.args.lines.now in
     let l = c.loop-line in
-    let sum = left_sum (lines_text ls) _ (line_text (get_or ls l.line-index no_line)) (lines_text (drop (l.line-index + 1) ls)) l.at c.put-line-at.result
-    l.out c.args.out.now (lines_more ls l.line-index c.loop-line-test.true) l.invariant c.put-line-at.ensures.len in
+    let sum = left_sum (lines_text ls) _ (line_text (get_or ls l.line-index no_line)) (lines_text (drop (l.line-index + 1) ls)) l.at c.put_line-at.result
+    l.out c.args.out.now (lines_more ls l.line-index c.loop-line-test.true) l.invariant c.put_line-at.ensures.len in
     omega arith
 
 pub loop-line-preserved : goal.loop-line-preserved
 loop-line-preserved c =
     let ls = c.args.lines.now in
     let l = c.loop-line in
-    left_more (lines_text ls) _ (line_text (get_or ls l.line-index no_line)) (lines_text (drop (l.line-index + 1) ls)) l.at c.put-line-at.result l.out
-    c.put-line-at.new.out c.args.out.now (lines_more ls l.line-index c.loop-line-test.true) l.invariant c.put-line-at.ensures.after
-    c.put-line-at.ensures.len
+    left_more (lines_text ls) _ (line_text (get_or ls l.line-index no_line)) (lines_text (drop (l.line-index + 1) ls)) l.at c.put_line-at.result l.out
+    c.put_line-at.new.out c.args.out.now (lines_more ls l.line-index c.loop-line-test.true) l.invariant c.put_line-at.ensures.after
+    c.put_line-at.ensures.len
 
 pub returns : goal.returns
 returns c =

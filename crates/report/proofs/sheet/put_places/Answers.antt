@@ -9,21 +9,21 @@ use Rattle.report.proofs.sheet.put_places.Goals as goal
 pub loop-place-init : goal.loop-place-init
 loop-place-init c = left_none (places_from 0 c.args.entries.now) c.args.out.now c.requires
 
-pub put-lines-at-requires : goal.put-lines-at-requires
-put-lines-at-requires c =
+pub put_lines-at-requires : goal.put_lines-at-requires
+put_lines-at-requires c =
     let es = c.args.entries.now in
     let l = c.loop-place in
     let rest = places_from (l.place + 1) (drop (l.place + 1) es) in
-    left_room (places_from 0 es) _ (lines_text c.place-lines.result) rest l.at l.out c.args.out.now
-    (places_next es l.place c.place-lines.result c.loop-place-test.true c.place-lines.ensures) l.invariant
+    left_room (places_from 0 es) _ (lines_text c.place_lines.result) rest l.at l.out c.args.out.now
+    (places_next es l.place c.place_lines.result c.loop-place-test.true c.place_lines.ensures) l.invariant
 
-pub overflow-add-at : goal.overflow-add-at
-overflow-add-at c =
+pub overflow_add-at : goal.overflow_add-at
+overflow_add-at c =
     let es = c.args.entries.now in
     let l = c.loop-place in
     let rest = places_from (l.place + 1) (drop (l.place + 1) es) in
-    let sum = left_sum (places_from 0 es) _ (lines_text c.place-lines.result) rest l.at c.put-lines-at.result l.out c.args.out.now
-    (places_next es l.place c.place-lines.result c.loop-place-test.true c.place-lines.ensures) l.invariant c.put-lines-at.ensures.len in
+    let sum = left_sum (places_from 0 es) _ (lines_text c.place_lines.result) rest l.at c.put_lines-at.result l.out c.args.out.now
+    (places_next es l.place c.place_lines.result c.loop-place-test.true c.place_lines.ensures) l.invariant c.put_lines-at.ensures.len in
     omega arith
 
 pub loop-place-preserved : goal.loop-place-preserved
@@ -31,9 +31,9 @@ loop-place-preserved c =
     let es = c.args.entries.now in
     let l = c.loop-place in
     let rest = places_from (l.place + 1) (drop (l.place + 1) es) in
-    left_more (places_from 0 es) _ (lines_text c.place-lines.result) rest l.at c.put-lines-at.result l.out c.put-lines-at.new.out c.args.out.now
-    (places_next es l.place c.place-lines.result c.loop-place-test.true c.place-lines.ensures) l.invariant c.put-lines-at.ensures.after
-    c.put-lines-at.ensures.len
+    left_more (places_from 0 es) _ (lines_text c.place_lines.result) rest l.at c.put_lines-at.result l.out c.put_lines-at.new.out c.args.out.now
+    (places_next es l.place c.place_lines.result c.loop-place-test.true c.place_lines.ensures) l.invariant c.put_lines-at.ensures.after
+    c.put_lines-at.ensures.len
 
 pub returns : goal.returns
 returns c =

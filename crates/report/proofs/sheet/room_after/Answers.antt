@@ -5,19 +5,19 @@ use Rattle.report.proofs.Rooms.{room_none}
 use Rattle.report.proofs.Texts.{no_line, lines_more}
 use Rattle.report.proofs.sheet.room_after.Goals as goal
 
-pub returns-in-err-left : goal.returns-in-err-left
-returns-in-err-left c =
+pub returns-in_err-left : goal.returns-in_err-left
+returns-in_err-left c =
     let ls = c.args.lines.now in
     let i = c.loop-line.line-index in
     let step = ap length (lines_more ls i c.loop-line-test.true) ∙ length-append (line_text (get_or ls i no_line)) (lines_text (drop (i + 1) ls)) in
-    room_none _ _ _ c.from-residual.ensures (λ h. c.in-err-left.ensures (omega arith))
+    room_none _ _ _ c.from_residual.ensures (λ h. c.in_err-left.ensures (omega arith))
 
 pub loop-line-preserved : goal.loop-line-preserved
 loop-line-preserved c =
     let ls = c.args.lines.now in
     let i = c.loop-line.line-index in
     let step = ap length (lines_more ls i c.loop-line-test.true) ∙ length-append (line_text (get_or ls i no_line)) (lines_text (drop (i + 1) ls)) in
-    omega (arith, c.in-ok-left.ensures)
+    omega (arith, c.in_ok-left.ensures)
 
 pub returns : goal.returns
 returns c =

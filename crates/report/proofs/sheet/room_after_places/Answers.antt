@@ -6,21 +6,21 @@ use Rattle.report.proofs.Rooms.{room_none}
 use Rattle.report.proofs.Texts.{places_next}
 use Rattle.report.proofs.sheet.room_after_places.Goals as goal
 
-pub returns-in-err-left : goal.returns-in-err-left
-returns-in-err-left c =
+pub returns-in_err-left : goal.returns-in_err-left
+returns-in_err-left c =
     let es = c.args.entries.now in
     let i = c.loop-place.place in
-    let step = ap length (places_next es i c.place-lines.result c.loop-place-test.true c.place-lines.ensures)
-    ∙ length-append (lines_text c.place-lines.result) (places_from (i + 1) (drop (i + 1) es)) in
-    room_none _ _ _ c.from-residual.ensures (λ h. c.in-err-left.ensures (omega arith))
+    let step = ap length (places_next es i c.place_lines.result c.loop-place-test.true c.place_lines.ensures)
+    ∙ length-append (lines_text c.place_lines.result) (places_from (i + 1) (drop (i + 1) es)) in
+    room_none _ _ _ c.from_residual.ensures (λ h. c.in_err-left.ensures (omega arith))
 
 pub loop-place-preserved : goal.loop-place-preserved
 loop-place-preserved c =
     let es = c.args.entries.now in
     let i = c.loop-place.place in
-    let step = ap length (places_next es i c.place-lines.result c.loop-place-test.true c.place-lines.ensures)
-    ∙ length-append (lines_text c.place-lines.result) (places_from (i + 1) (drop (i + 1) es)) in
-    omega (arith, c.in-ok-left.ensures)
+    let step = ap length (places_next es i c.place_lines.result c.loop-place-test.true c.place_lines.ensures)
+    ∙ length-append (lines_text c.place_lines.result) (places_from (i + 1) (drop (i + 1) es)) in
+    omega (arith, c.in_ok-left.ensures)
 
 pub returns : goal.returns
 returns c =

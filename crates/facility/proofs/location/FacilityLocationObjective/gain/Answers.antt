@@ -6,7 +6,7 @@ pub loop-v-preserved : goal.loop-v-preserved
 loop-v-preserved c =
     let w = c.args.self.now in
     let more = views_more (λ y. y.look) w.table.now w.best (c.args.x.now ∷ []) c.loop-v.v in
-    (omega (arith, more, c.loop-v.invariant.0, c.saturating-sub.ensures, c.likeness.ensures), omega (arith, c.loop-v.invariant.1, c.saturating-sub.ensures, c.likeness.ensures))
+    (omega (arith, more, c.loop-v.invariant.0, c.saturating_sub.ensures, c.likeness.ensures), omega (arith, c.loop-v.invariant.1, c.saturating_sub.ensures, c.likeness.ensures))
 
 pub returns : goal.returns
 returns c =

@@ -5,14 +5,14 @@ use Rattle.laminar.proofs.Trees.{tree_accepted, parents_low}
 use Rattle.laminar.proofs.laminar.LaminarMatroid.new.Goals as goal
 
 pub narrowed-requires : goal.narrowed-requires
-narrowed-requires c = let got = tree_accepted c.args.caps.now c.args.parents.now c.in-ok-check-tree.ensures in (got.count, λ i. omega (arith, got.limit i))
+narrowed-requires c = let got = tree_accepted c.args.caps.now c.args.parents.now c.in_ok-check_tree.ensures in (got.count, λ i. omega (arith, got.limit i))
 
 pub narrowed-requires-2 : goal.narrowed-requires-2
-narrowed-requires-2 c = let got = tree_accepted c.args.caps.now c.args.parents.now c.in-ok-check-tree.ensures in (got.paired, parents_low c.args.parents.now (parents_from c.args.parents.now got.paired got.tree))
+narrowed-requires-2 c = let got = tree_accepted c.args.caps.now c.args.parents.now c.in_ok-check_tree.ensures in (got.paired, parents_low c.args.parents.now (parents_from c.args.parents.now got.paired got.tree))
 
-pub invariant-of-result : goal.invariant-of-result
-invariant-of-result c =
-    let got = tree_accepted c.args.caps.now c.args.parents.now c.in-ok-check-tree.ensures in
+pub invariant_of-result : goal.invariant_of-result
+invariant_of-result c =
+    let got = tree_accepted c.args.caps.now c.args.parents.now c.in_ok-check_tree.ensures in
     let low = subst (λ (ns : List ℕ). (i : ℕ) → get_or ns i 0 ≤ 48) (sym c.narrowed.ensures) got.limit in
     let tree = subst (λ (ns : List ℕ). (b : ℕ) → may_hold b (parent_of ns b) ≡ true) (sym c.narrowed-2.ensures) got.tree in
-    (ap length c.narrowed.ensures ∙ got.count, (ap length c.narrowed-2.ensures ∙ got.paired, (low, (tree, tt))))
+    record { count = ap length c.narrowed.ensures ∙ got.count; paired = ap length c.narrowed-2.ensures ∙ got.paired; limit = low; tree = tree }
