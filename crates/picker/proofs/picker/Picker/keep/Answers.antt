@@ -6,8 +6,8 @@ use Rattle.picker.specs.Entries.{sound, total}
 use Rattle.picker.proofs.Entries.{held_push, sound_push, total_push}
 use Rattle.picker.proofs.picker.Picker.keep.Goals as goal
 
-pub invariant-of-self : goal.invariant-of-self
-invariant-of-self g c =
+pub invariant_of-self : goal.invariant_of-self
+invariant_of-self g c =
     let p = c.args.self.now in
     let es = held p.table in
     let u = c.push.new.self in
@@ -19,7 +19,15 @@ invariant-of-self g c =
     let room : length (held u) ≤ p.size.n = omega (arith, c.requires.room) in
     let good : sound (held u) ≡ true = ap sound kept_is ∙ sound_push c.args.x c.args.g c.requires.range small es p.kept in
     let sums : p.gain + c.from.result ≡ total (held u) = omega (arith, p.gains, c.from.ensures, total_push es c.args.x c.args.g, ap total kept_is) in
-    (room, (good, (omega (arith, p.taken), (omega (arith, c.requires.seen), (sums, (omega (arith, p.less, c.from.ensures, c.from-2.ensures), (omega (arith, p.most, c.from-2.ensures), tt)))))))
+    record {
+      room = room;
+      kept = good;
+      taken = omega (arith, p.taken);
+      bound = omega (arith, c.requires.seen);
+      gains = sums;
+      less = omega (arith, p.less, c.from.ensures, c.from-2.ensures);
+      most = omega (arith, p.most, c.from-2.ensures);
+    }
 
 pub returns : goal.returns
 returns g c =

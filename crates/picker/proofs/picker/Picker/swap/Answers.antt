@@ -6,13 +6,13 @@ use Rattle.picker.specs.Entries.{sound, total}
 use Rattle.picker.proofs.Entries.{held-set, sound-set, total-set}
 use Rattle.picker.proofs.picker.Picker.swap.Goals as goal
 
-pub overflow-sub-self : goal.overflow-sub-self
-overflow-sub-self g c =
+pub overflow_sub-self : goal.overflow_sub-self
+overflow_sub-self g c =
     let p = c.args.self.now in
-    omega (arith, p.gains, c.gain-at-was.ensures, c.from-2.ensures, (total-set (held p.table) c.args.newcomer c.args.g c.args.place c.requires.place).0)
+    omega (arith, p.gains, c.gain_at-was.ensures, c.from-2.ensures, (total-set (held p.table) c.args.newcomer c.args.g c.args.place c.requires.place).0)
 
-pub invariant-of-self : goal.invariant-of-self
-invariant-of-self g c =
+pub invariant_of-self : goal.invariant_of-self
+invariant_of-self g c =
     let p = c.args.self.now in
     let es = held p.table in
     let u = c.replace.new.self in
@@ -23,8 +23,16 @@ invariant-of-self g c =
     let room : length (held u) ≤ p.size.n = omega (arith, p.room) in
     let good : sound (held u) ≡ true = ap sound kept_is ∙ sound-set c.args.newcomer c.args.g c.requires.range small es c.args.place p.kept in
     let moved = total-set es c.args.newcomer c.args.g c.args.place c.requires.place in
-    let sums : p.gain - c.from-2.result + c.from-3.result ≡ total (held u) = omega (arith, p.gains, c.gain-at-was.ensures, c.from-2.ensures, c.from-3.ensures, moved.0, moved.1, ap total kept_is) in
-    (room, (good, (omega (arith, p.taken), (omega (arith, c.requires.seen), (sums, (omega (arith, p.less, c.from-3.ensures, c.from.ensures), (omega (arith, p.most, c.from.ensures), tt)))))))
+    let sums : p.gain - c.from-2.result + c.from-3.result ≡ total (held u) = omega (arith, p.gains, c.gain_at-was.ensures, c.from-2.ensures, c.from-3.ensures, moved.0, moved.1, ap total kept_is) in
+    record {
+      room = room;
+      kept = good;
+      taken = omega (arith, p.taken);
+      bound = omega (arith, c.requires.seen);
+      gains = sums;
+      less = omega (arith, p.less, c.from-3.ensures, c.from.ensures);
+      most = omega (arith, p.most, c.from.ensures);
+    }
 
 pub returns : goal.returns
 returns g c =
@@ -34,7 +42,7 @@ returns g c =
       kept = held-set p.table c.replace.new.self c.args.newcomer c.args.g c.args.place c.replace.ensures;
       took = refl;
       seen = refl;
-      gain = omega (arith, p.gains, c.gain-at-was.ensures, c.from-2.ensures, c.from-3.ensures, moved.0, moved.1);
+      gain = omega (arith, p.gains, c.gain_at-was.ensures, c.from-2.ensures, c.from-3.ensures, moved.0, moved.1);
       tells = ap (λ n. p.told + n) c.from.ensures;
       size = refl;
       matroid = refl;

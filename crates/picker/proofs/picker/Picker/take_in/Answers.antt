@@ -61,12 +61,12 @@ settled_passed st x (Swapped p g l) h k = absurd (k p g l refl)
 settled_passed st x (Light p g l) h k = refl
 settled_passed st x (Barred g) h k = refl
 
-pub returns-in-default : goal.returns-in-default
-returns-in-default g c =
+pub returns-in_default : goal.returns-in_default
+returns-in_default g c =
     let p = c.args.self.now in
     let o = c.weigh-outcome.result in
     record {
       outcome = c.weigh-outcome.ensures;
       after = advance_passed g.W.Objective.value g.W.Objective.residual g.R.Matroid.admits g.W.Objective.laws p c.pass.new.self c.args.x o c.weigh-outcome.ensures
-          (settled_passed (begun p) c.args.x o c.in-default.not-Kept c.in-default.not-Swapped) c.pass.ensures;
+          (settled_passed (begun p) c.args.x o c.in_default.not-Kept c.in_default.not-Swapped) c.pass.ensures;
     }

@@ -9,14 +9,14 @@ returns-then-self c =
     let e : drop s.at s.text.now ≡ [] = drop_all s.at s.text.now (omega arith) in
     record { text = refl; cases = (e, refl, refl); exact = next_by_text s.text.now s.at s.count s.at s.count _ (e, refl, refl) }
 
-pub returns-in-err-frame : goal.returns-in-err-frame
-returns-in-err-frame c =
+pub returns-in_err-frame : goal.returns-in_err-frame
+returns-in_err-frame c =
     let s = c.args.self.now in
-    let h = next_refused s.text.now s.at s.count c.from-residual.result c.in-err-frame.field-0.0 (omega arith) c.in-err-frame.ensures.reads c.from-residual.ensures.1 in
-    record { text = refl; cases = h; exact = next_by_text s.text.now s.at s.count s.at s.count c.from-residual.result h }
+    let h = next_refused s.text.now s.at s.count c.from_residual.result c.in_err-frame.field-0.0 (omega arith) c.in_err-frame.ensures.reads c.from_residual.ensures.1 in
+    record { text = refl; cases = h; exact = next_by_text s.text.now s.at s.count s.at s.count c.from_residual.result h }
 
 pub returns : goal.returns
 returns c =
     let s = c.args.self.now in
-    let h = c.in-ok-frame.ensures.reads in
-    record { text = refl; cases = (h, refl); exact = next_by_text s.text.now s.at s.count c.in-ok-frame.behind (s.count + 1) _ (h, refl) }
+    let h = c.in_ok-frame.ensures.reads in
+    record { text = refl; cases = (h, refl); exact = next_by_text s.text.now s.at s.count c.in_ok-frame.behind (s.count + 1) _ (h, refl) }
