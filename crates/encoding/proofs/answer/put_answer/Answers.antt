@@ -8,29 +8,29 @@ pub returns-in-Offered : goal.returns-in-Offered
 unfolding answer_bytes
 returns-in-Offered c =
     let out = c.args.out.now in
-    c.put-said.ensures ∙ ap (λ s. placed (said_bytes s) out) c.offered.ensures ∙ ap (λ a. placed (answer_bytes a) out) (sym c.in-Offered.is)
+    c.put_said.ensures ∙ ap (λ s. placed (said_bytes s) out) c.offered.ensures ∙ ap (λ a. placed (answer_bytes a) out) (sym c.in-Offered.is)
 
 pub returns-in-Texted : goal.returns-in-Texted
 unfolding answer_bytes
 returns-in-Texted c =
     let out = c.args.out.now in
-    c.put-texted.ensures ∙ ap (λ s. placed (texted_bytes s) out) c.texted.ensures ∙ ap (λ a. placed (answer_bytes a) out) (sym c.in-Texted.is)
+    c.put_texted.ensures ∙ ap (λ s. placed (texted_bytes s) out) c.texted.ensures ∙ ap (λ a. placed (answer_bytes a) out) (sym c.in-Texted.is)
 
 pub returns-in-Looked : goal.returns-in-Looked
 unfolding answer_bytes
 returns-in-Looked c =
     let out = c.args.out.now in
-    c.put-looked.ensures ∙ ap (λ s. placed (looked_bytes s) out) c.looked.ensures ∙ ap (λ a. placed (answer_bytes a) out) (sym c.in-Looked.is)
+    c.put_looked.ensures ∙ ap (λ s. placed (looked_bytes s) out) c.looked.ensures ∙ ap (λ a. placed (answer_bytes a) out) (sym c.in-Looked.is)
 
 pub returns-in-Counted : goal.returns-in-Counted
 unfolding answer_bytes
-returns-in-Counted c = c.put-counted.ensures ∙ ap (λ a. placed (answer_bytes a) c.args.out.now) (sym c.in-Counted.is)
+returns-in-Counted c = c.put_counted.ensures ∙ ap (λ a. placed (answer_bytes a) c.args.out.now) (sym c.in-Counted.is)
 
 pub returns-in-Printed : goal.returns-in-Printed
 unfolding answer_bytes
 returns-in-Printed c =
     let out = c.args.out.now in
-    c.put-printed.ensures ∙ ap (λ s. placed (printed_bytes s) out) c.printed.ensures ∙ ap (λ a. placed (answer_bytes a) out) (sym c.in-Printed.is)
+    c.put_printed.ensures ∙ ap (λ s. placed (printed_bytes s) out) c.printed.ensures ∙ ap (λ a. placed (answer_bytes a) out) (sym c.in-Printed.is)
 
 pub returns-in-Cleared : goal.returns-in-Cleared
 unfolding answer_bytes

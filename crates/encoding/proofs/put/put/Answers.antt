@@ -10,4 +10,4 @@ returns c =
     let t = c.args.bytes.now in
     let s = c.args.out.now in
     let all : length t - 0 ≡ length t = omega arith in
-    ap (λ u. u ++ drop (length t - 0) s) c.copy-from-slice.ensures.after ∙ ap (λ k. t ++ drop k s) all ∙ sym (placed_fits t s (omega arith))
+    ap (λ u. u ++ drop (length t - 0) s) c.copy_from_slice.ensures.after ∙ ap (λ k. t ++ drop k s) all ∙ sym (placed_fits t s (omega arith))

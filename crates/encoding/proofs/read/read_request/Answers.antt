@@ -7,4 +7,4 @@ use Rattle.encoding.proofs.read.read_request.Goals as goal
 pub returns : goal.returns
 returns c =
     let s = c.args.bytes.now in
-    subst (λ s. Reads s c.read-kind.result) (sym (begins s _ _ (omega arith) refl (take_rest s 1))) c.read-kind.ensures
+    subst (λ s. Reads s c.read_kind.result) (sym (begins s _ _ (omega arith) refl (take_rest s 1))) c.read_kind.ensures

@@ -8,13 +8,13 @@ use Rattle.encoding.proofs.words.frame_in.Goals as goal
 pub returns : goal.returns
 returns c =
     let s = c.args.bytes.now in
-    let n = c.in-ok-u32-in.field-0 in
-    let m = c.u64-in.result in
-    let first = c.in-ok-u32-in.ensures in
-    let second = c.u64-in.ensures in
+    let n = c.in_ok-u32_in.field-0 in
+    let m = c.u64_in.result in
+    let first = c.in_ok-u32_in.ensures in
+    let second = c.u64_in.ensures in
     let made : ℕ → ℕ → Frame = λ n m. record { number = n; marks = m; look = get_or s 12 0; lane = get_or s 13 0; tail = get_or s 14 0; head = get_or s 15 0; side = get_or s 16 0 } in
     let rest = take_rest s 4 in
-    let byte = c.type-inv.bytes in
+    let byte = c.type_inv.bytes in
     record {
       long = omega arith;
       value = ap₂ made first.value (second.value ∙ ap number8 rest);

@@ -30,15 +30,15 @@ pub returns-in-Text : goal.returns-in-Text
 returns-in-Text g c =
     let p = c.args.picker.now in
     let s = c.args.sheet.now in
-    let o = c.offer-text.ensures in
+    let o = c.offer_text.ensures in
     let t = c.in-Text.text.now in
-    let same = texted_same g.W.Objective.value g.W.Objective.residual g.R.Matroid.admits p t c.offer-text.result c.offer-text.new.self o.step in
-    subst (λ k. Carried g.W.Objective.value g.W.Objective.residual g.R.Matroid.admits (called k) p s (Texted c.offer-text.result) c.offer-text.new.self s) (sym c.in-Text.is) (record {
+    let same = texted_same g.W.Objective.value g.W.Objective.residual g.R.Matroid.admits p t c.offer_text.result c.offer_text.new.self o.step in
+    subst (λ k. Carried g.W.Objective.value g.W.Objective.residual g.R.Matroid.admits (called k) p s (Texted c.offer_text.result) c.offer_text.new.self s) (sym c.in-Text.is) (record {
       size = same.0;
       matroid = same.1;
       whole = same.2;
       carries = o.carries;
-      answer = λ h k. ap Texted (texted_answer g.W.Objective.value g.W.Objective.residual g.R.Matroid.admits g.W.Objective.laws h p k t c.offer-text.result c.offer-text.new.self o.step);
+      answer = λ h k. ap Texted (texted_answer g.W.Objective.value g.W.Objective.residual g.R.Matroid.admits g.W.Objective.laws h p k t c.offer_text.result c.offer_text.new.self o.step);
       sheet = λ h k. refl;
     })
 

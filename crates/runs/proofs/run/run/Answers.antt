@@ -11,7 +11,7 @@ use Rattle.runs.proofs.run.run.Goals as goal
 
 pub loop-call-preserved : goal.loop-call-preserved
 loop-call-preserved g c =
-    led_more g.W.Objective.value g.W.Objective.residual g.R.Matroid.admits c.open-picker.result c.args.calls.now c.args.sheet.now c.loop-call.call-index _ _ c.loop-call.picker c.carry-out.new.picker c.loop-call.sheet c.carry-out.new.sheet c.loop-call.answer c.carry-out.result c.loop-call-test.true refl c.carry-out.ensures c.loop-call.invariant
+    led_more g.W.Objective.value g.W.Objective.residual g.R.Matroid.admits c.open-picker.result c.args.calls.now c.args.sheet.now c.loop-call.call-index _ _ c.loop-call.picker c.carry_out.new.picker c.loop-call.sheet c.carry_out.new.sheet c.loop-call.answer c.carry_out.result c.loop-call-test.true refl c.carry_out.ensures c.loop-call.invariant
 
 pub returns : goal.returns
 returns g c =

@@ -10,11 +10,11 @@ no_frame_lem = record { number = 0; marks = 0; look = 0; lane = 0; tail = 0; hea
 
 pub loop-x-preserved : goal.loop-x-preserved
 loop-x-preserved c =
-    let more = length-chosen_more c.args.frames.now c.loop-x.-x-index c.loop-x.rest no_frame_lem c.loop-x-test.true in
+    let more = length-chosen_more c.args.frames.now c.loop-x._x-index c.loop-x.rest no_frame_lem c.loop-x-test.true in
     (omega (arith, c.loop-x.invariant.0), omega (arith, c.loop-x.invariant.1))
 
 pub returns : goal.returns
 returns c =
-    let done = chosen-all length c.args.frames.now c.loop-x.-x-index c.loop-x.rest c.loop-x-test.false in
+    let done = chosen-all length c.args.frames.now c.loop-x._x-index c.loop-x.rest c.loop-x-test.false in
     let all : c.loop-x.count ≡ length (chosen c.args.frames.now c.args.places) = omega (arith, c.loop-x.invariant.1) in
     ap (λ n. leb n c.args.self.now.most) all
