@@ -1,3 +1,5 @@
+#![tactic(auto)]
+
 // Cases that are run, with what they answer and write compared.
 
 #[cfg(test)]

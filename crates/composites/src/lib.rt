@@ -1,3 +1,5 @@
+#![tactic(auto)]
+
 pub mod capped;
 mod room;
 pub mod sum;

@@ -1,3 +1,5 @@
+#![tactic(auto)]
+
 ghost use Rattle.cycles.specs.Claims.{GraphicStands};
 
 // Computes nothing: its contract asks for the proof that the bags of frames with no even part are those of a matroid, and

@@ -1,3 +1,5 @@
+#![tactic(auto)]
+
 ghost use Rattle.std.specs.Prelude.{◌≡◌, [], ◌∷◌, take, Some as SomeOf, MatchResult};
 ghost use Rattle.std.specs.Result.{result_ok};
 ghost use Rattle.kept.specs.Tables.{held};

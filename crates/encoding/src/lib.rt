@@ -1,3 +1,5 @@
+#![tactic(auto)]
+
 pub mod answer;
 mod put;
 pub mod read;

@@ -1,3 +1,5 @@
+#![tactic(auto)]
+
 pub mod judge;
 pub mod outcome;
 mod rows;

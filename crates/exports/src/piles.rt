@@ -16,8 +16,7 @@ use operations::truncation::Truncation;
 use serving::serve::serve;
 
 // Coverage over a partition matroid.
-#[unsafe(no_mangle)]
-pub extern "C" fn fogetsu_coverage_partition(
+pub fn fogetsu_coverage_partition(
     size: u32,
     weights: &[u32],
     caps: &[u32],
@@ -42,8 +41,7 @@ pub extern "C" fn fogetsu_coverage_partition(
 }
 
 // The sum of coverage under a cap and facility location, over a truncated laminar matroid.
-#[unsafe(no_mangle)]
-pub extern "C" fn fogetsu_capped_facility_laminar(
+pub fn fogetsu_capped_facility_laminar(
     size: u32,
     weights: &[u32],
     cap: u32,
@@ -77,8 +75,7 @@ pub extern "C" fn fogetsu_capped_facility_laminar(
 }
 
 // The sum of concave counts and coverage, over the direct sum of the graphic matroid and a partition matroid.
-#[unsafe(no_mangle)]
-pub extern "C" fn fogetsu_concave_graphic(
+pub fn fogetsu_concave_graphic(
     size: u32,
     steps: &[u32],
     weights: &[u32],

@@ -1,3 +1,5 @@
+#![tactic(auto)]
+
 pub mod size;
 pub mod sizing;
 pub mod slots;

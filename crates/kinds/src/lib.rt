@@ -1,3 +1,5 @@
+#![tactic(auto)]
+
 ghost use Rattle.kinds.specs.Claims.{ObjectivesStand, MatroidsStand};
 
 // Computes nothing: its contract asks for the proof that each kind of objective keeps the laws, that what added frames

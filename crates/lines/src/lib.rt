@@ -1,3 +1,5 @@
+#![tactic(auto)]
+
 mod due;
 mod key_bytes;
 mod line_fault;

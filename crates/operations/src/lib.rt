@@ -1,2 +1,4 @@
+#![tactic(auto)]
+
 pub mod direct_sum;
 pub mod truncation;

@@ -1,3 +1,5 @@
+#![tactic(auto)]
+
 pub mod atmost;
 pub mod counting;
 pub mod framecount;

@@ -1,3 +1,5 @@
+#![tactic(auto)]
+
 ghost use Rattle.outside_laws.specs.Counts.{CountsStand};
 
 // Computes nothing: its contract asks for the proof that the count up to a cap keeps the laws of an objective, and how a

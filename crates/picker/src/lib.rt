@@ -1,3 +1,5 @@
+#![tactic(auto)]
+
 pub mod clear;
 pub mod looks;
 pub mod offer;

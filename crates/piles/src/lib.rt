@@ -1,3 +1,5 @@
+#![tactic(auto)]
+
 ghost use Rattle.std.specs.Prelude.{◌≡◌, List};
 ghost use Rattle.frames.specs.declared.frame.Frame.{Frame as FrameOf};
 ghost use Rattle.piles.specs.Pile.{pile_value, pile_residual};

@@ -1,3 +1,5 @@
+#![tactic(auto)]
+
 mod next;
 mod progress;
 pub mod reader;

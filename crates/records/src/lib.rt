@@ -1,3 +1,5 @@
+#![tactic(auto)]
+
 pub mod digits;
 pub mod key;
 pub mod line;

@@ -1,3 +1,5 @@
+#![tactic(auto)]
+
 pub mod counts;
 mod digits;
 mod line;

@@ -32,7 +32,7 @@ ran_at text s t a es took {ws} {ws'} {cs} {cs'} {n} {n'} ew ec en r =
 pub returns : goal.returns
 unfolding weights caps
 returns c =
-    let size : c.in-ok-size.size.n ≡ places = same_ok _ places c.in-ok-size.ensures in
+    let size : c.in_ok-size.size.n ≡ places = same_ok _ places c.in_ok-size.ensures in
     let p = c.run.result.picker in
     let both = ran_at c.args.text.now c.args.sheet.now c.run.new.sheet c.run.result.answer (held p.table) p.took {ws' = weights} {cs' = caps} c.in-Ok.ensures.accepted.0 c.in-Ok-new.ensures.accepted size (c.run.ensures.label, c.run.ensures.left) in
     record { ran = (both.0, ap (λ r. r.1) both.1); sheet = ap (λ r. r.0) both.1 }

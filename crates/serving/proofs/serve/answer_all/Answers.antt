@@ -13,14 +13,14 @@ pub loop-from-init : goal.loop-from-init
 loop-from-init g c =
     led_none g.W.Objective.value g.W.Objective.residual g.R.Matroid.admits c.args.picker c.args.calls.now c.args.answers.now c.requires
 
-pub returns-in-default : goal.returns-in-default
-returns-in-default g c =
+pub returns-in_default : goal.returns-in_default
+returns-in_default g c =
     let s = c.args.calls.now in
     let l = c.loop-from in
-    led_stopped g.W.Objective.value g.W.Objective.residual g.R.Matroid.admits c.args.picker s c.args.answers.now l.from l.to l.picker l.answers c.loop-from-test.true l.invariant (subst (λ t. Reads t None) (take_rest s l.from) c.in-default.ensures)
+    led_stopped g.W.Objective.value g.W.Objective.residual g.R.Matroid.admits c.args.picker s c.args.answers.now l.from l.to l.picker l.answers c.loop-from-test.true l.invariant (subst (λ t. Reads t None) (take_rest s l.from) c.in_default.ensures)
 
-pub overflow-add-due : goal.overflow-add-due
-overflow-add-due g c = omega (arith, (small_due c.fixed.result c.in-Some.request _ c.fixed.ensures c.in-Some.ensures).0)
+pub overflow_add-due : goal.overflow_add-due
+overflow_add-due g c = omega (arith, (small_due c.fixed.result c.in-Some.request _ c.fixed.ensures c.in-Some.ensures).0)
 
 pub returns-then-due-answers : goal.returns-then-due-answers
 returns-then-due-answers g c =
@@ -39,8 +39,8 @@ answer-requires g c =
     let long = window_long l.to m l.answers c.if-due-answers.false l.invariant.room in
     omega (arith, c.fixed.ensures, long)
 
-pub overflow-add-from : goal.overflow-add-from
-overflow-add-from g c =
+pub overflow_add-from : goal.overflow_add-from
+overflow_add-from g c =
     let s = c.args.calls.now in
     let l = c.loop-from in
     let k = small_due c.fixed.result c.in-Some.request _ c.fixed.ensures c.in-Some.ensures in

@@ -7,12 +7,12 @@ use Rattle.serving.proofs.Promise.{kept_promise}
 use Rattle.serving.proofs.Serves.{served_none, served_short, served_all}
 use Rattle.serving.proofs.serve.serve.Goals as goal
 
-pub returns-in-default : goal.returns-in-default
-returns-in-default g c =
+pub returns-in_default : goal.returns-in_default
+returns-in_default g c =
     let w = c.args.objective in
     let m = c.args.matroid in
     record {
-      served = served_none (g.W.Objective.value w) (g.R.Matroid.admits m) c.args.size.n c.args.calls.now c.args.answers.now c.in-default.ensures;
+      served = served_none (g.W.Objective.value w) (g.R.Matroid.admits m) c.args.size.n c.args.calls.now c.args.answers.now c.in_default.ensures;
       promise = kept_promise (g.W.Objective.value w) (g.W.Objective.residual w) (g.R.Matroid.admits m) c.args.size.n (g.W.Objective.laws w) (g.R.Matroid.laws m);
     }
 
@@ -32,11 +32,11 @@ returns g c =
     let n = c.args.size.n in
     let s = c.args.answers.now in
     let made = c.open.ensures.opened in
-    let all : (cs : List Requested) → Encodes cs c.args.calls.now → due_all cs ≤ length s → c.answer-all.new.answers ≡ answered_all (g.W.Objective.value w) (g.R.Matroid.admits m) n [] cs s = λ cs e d.
-    c.answer-all.ensures cs e d
+    let all : (cs : List Requested) → Encodes cs c.args.calls.now → due_all cs ≤ length s → c.answer_all.new.answers ≡ answered_all (g.W.Objective.value w) (g.R.Matroid.admits m) n [] cs s = λ cs e d.
+    c.answer_all.ensures cs e d
     ∙ ap₂ (λ (f : List Frame → ℕ) m. answered_all f (g.R.Matroid.admits m) c.open.result.size.n [] cs s) (fun_ext made.whole) made.rule
     ∙ ap (λ n. answered_all (g.W.Objective.value w) (g.R.Matroid.admits m) n [] cs s) made.size in
     record {
-      served = served_all (g.W.Objective.value w) (g.R.Matroid.admits m) n c.args.calls.now s c.in-Some.due c.answer-all.new.answers c.in-Some.ensures (subst (λ k. c.in-Some.due ≤ k) c.min-room.ensures c.if-due-room.false) all;
+      served = served_all (g.W.Objective.value w) (g.R.Matroid.admits m) n c.args.calls.now s c.in-Some.due c.answer_all.new.answers c.in-Some.ensures (subst (λ k. c.in-Some.due ≤ k) c.min-room.ensures c.if-due-room.false) all;
       promise = kept_promise (g.W.Objective.value w) (g.W.Objective.residual w) (g.R.Matroid.admits m) n (g.W.Objective.laws w) (g.R.Matroid.laws m);
     }
