@@ -1,7 +1,9 @@
 // Each fault in each line of a record, with the record, the line and the byte that it names.
 use crate::play::{RECORD, front, opened, seen_of};
 use spots::fault::Spot;
-use std::test::*;
+use std::alloc::Global;
+use std::process::Abort;
+use std::test::Fail;
 
 // A damaged line, which stands behind a whole record and the whole lines of a second one that start before `start`, and
 // the refusal's number and the byte that are due.
@@ -76,11 +78,11 @@ fn cuts() -> [Row; 7] {
 }
 
 // The text is stopped there, and the picker stands as after the first record alone.
-fn stops(rt: HostRuntime, rows: &[Row]) -> Result<(), Fail> {
+fn stops(rt: &impl Abort, alloc: Global, rows: &[Row]) -> Result<(), Fail> {
     let mut first = opened()?;
-    assert_eq!(first.offer_text(RECORD), Ok(1));
+    assert_eq!(rt; first.offer_text(RECORD), Ok(1));
     for row in rows {
-        let mut text = Vec::new(rt.alloc());
+        let mut text = Vec::new(alloc);
         text.extend_from_slice(RECORD)?;
         text.extend_from_slice(front(RECORD, row.start))?;
         text.extend_from_slice(row.damaged)?;
@@ -88,22 +90,22 @@ fn stops(rt: HostRuntime, rows: &[Row]) -> Result<(), Fail> {
         let Err(fault) = picker.offer_text(text.as_slice()) else {
             return Err(Fail::new("no fault"));
         };
-        assert_eq!(fault.refusal().number(), row.refusal);
+        assert_eq!(rt; fault.refusal().number(), row.refusal);
         let spot = Spot {
             record: 2,
             line: row.line,
             byte: row.byte,
         };
-        assert_eq!(fault.spot(), spot);
-        assert!(seen_of(&picker) == seen_of(&first));
+        assert_eq!(rt; fault.spot(), spot);
+        assert!(rt; seen_of(&picker) == seen_of(&first));
     }
     Ok(())
 }
 
 #[test]
 fn faults_of_each_line(rt: HostRuntime) -> Result<(), Fail> {
-    stops(rt, &wrong_keys())?;
-    stops(rt, &bad_forms())?;
-    stops(rt, &overs())?;
-    stops(rt, &cuts())
+    stops(&rt, rt.alloc(), &wrong_keys())?;
+    stops(&rt, rt.alloc(), &bad_forms())?;
+    stops(&rt, rt.alloc(), &overs())?;
+    stops(&rt, rt.alloc(), &cuts())
 }

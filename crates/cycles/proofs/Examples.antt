@@ -1,5 +1,5 @@
 -- Small bags, computed. Assumes nothing.
-use Rattle.std.proofs.Common.{◌≡◌, ℕ, ◌+◌, ◌*◌, ◌/◌, ◌%◌, true, false, List, [], ◌∷◌, refl}
+use Rattle.std.proofs.Common.{◌≡◌, ℕ, ◌+◌, ◌*◌, ◌/◌, ◌%◌, true, false, [], ◌∷◌, refl}
 use Rattle.cycles.specs.Graphs.{graphic}
 
 -- a frame is a number: the tail's station times 256, and the head's

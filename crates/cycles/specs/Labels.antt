@@ -1,5 +1,5 @@
 -- Labels of stations, which tell independent bags from others. Assumes nothing.
-use Rattle.std.specs.Prelude.{ℕ, Bool, true, false, cond, List, [], ◌∷◌, map, ◌==◌, slice_index_or}
+use Rattle.std.specs.Prelude.{ℕ, Bool, true, false, cond, List, [], ◌∷◌, ◌==◌, slice_index_or}
 
 -- the label b becomes a
 abbrev pub merged : ℕ → ℕ → ℕ → ℕ

@@ -1,8 +1,7 @@
 -- A frame's bytes. Assumes nothing.
-use Rattle.std.proofs.Common.{◌≡◌, ℕ, ◌+◌, ◌<◌, ◌≤◌, List, [], ◌∷◌, ◌++◌, length, get_or, drop, sym, refl, ap, ◌∙◌, subst, ap₂, arith}
+use Rattle.std.proofs.Common.{◌≡◌, ℕ, ◌≤◌, List, ◌∷◌, ◌++◌, length, get_or, drop, sym, ap, ◌∙◌, arith}
 use Rattle.std.proofs.lemmas.List.{drop-drop, drop_more}
-use Rattle.frames.specs.declared.frame.Frame.{Frame}
-use Rattle.encoding.specs.Words.{word4, word8, number8}
+use Rattle.encoding.specs.Words.{word4, word8}
 use Rattle.encoding.specs.Requests.{frame_bytes}
 
 last_five : (s : List ℕ) → 17 ≤ length s → drop 12 s ≡ get_or s 12 0 ∷ get_or s 13 0 ∷ get_or s 14 0 ∷ get_or s 15 0 ∷ get_or s 16 0 ∷ drop 17 s

@@ -1,16 +1,15 @@
 -- The call that bytes begin with. Assumes nothing.
-use Rattle.std.proofs.Common.{◌≡◌, ℕ, suc, ◌+◌, ◌-◌, ◌^◌, ◌<◌, ◌≤◌, Bool, true, false, cond, eqb, leb, List, [], ◌∷◌, ◌++◌, length, get_or, take, drop, Some, None, Option, sym, refl, ap, ◌∙◌, subst, ap₂, arith, Bor}
+use Rattle.std.proofs.Common.{◌≡◌, ℕ, suc, ◌+◌, ◌^◌, ◌<◌, ◌≤◌, cond, eqb, leb, List, [], ◌∷◌, ◌++◌, length, get_or, drop, Some, None, Option, sym, refl, ap, ◌∙◌, subst, ap₂, arith, Bor}
 use Rattle.std.specs.List.{flat_map}
 use Rattle.std.proofs.lemmas.List.{append_cancel_left, drop_more}
 use Rattle.std.proofs.lemmas.Bool.{le-leb, lt-leb}
 use Rattle.std.specs.Option.{option_map}
 use Rattle.frames.specs.declared.frame.Frame.{Frame}
-use Rattle.runs.specs.declared.call.Call.{Call}
 use Rattle.runs.specs.declared.call.Call.TheVariants.{Offer, Text, Look, Counts, Print, Clear}
 use Rattle.runs.specs.Runs.{called}
 use Rattle.encoding.specs.declared.request.Request.{Request}
-use Rattle.encoding.specs.Words.{word4, word8, number4, number8}
-use Rattle.encoding.specs.Requests.{Requested, offer, text, look_up, counts, print_out, clear, called_of, room_of, frame_bytes, bytes_of, Fits, Encodes, OneReading}
+use Rattle.encoding.specs.Words.{word4, word8, number4}
+use Rattle.encoding.specs.Requests.{Requested, offer, text, look_up, counts, print_out, clear, called_of, room_of, frame_bytes, bytes_of, Fits, OneReading}
 use Rattle.encoding.specs.Reading.{Head, Reads, Written, FramedAs, frame_in, TextAs, text_in}
 use Rattle.encoding.proofs.Numbers.{number4-word4, number8-word8}
 use Rattle.encoding.proofs.Texts.{text_read}

@@ -1,5 +1,5 @@
 -- The number that a number's bytes write. Assumes nothing.
-use Rattle.std.proofs.Common.{◌≡◌, ℕ, ◌+◌, ◌*◌, ◌/◌, ◌%◌, ◌^◌, ◌<◌, List, ◌++◌, sym, ◌∙◌, mod-eq_of_lt, arith, lit<}
+use Rattle.std.proofs.Common.{◌≡◌, ℕ, ◌+◌, ◌*◌, ◌/◌, ◌%◌, ◌^◌, ◌<◌, List, ◌++◌, ◌∙◌, mod-eq_of_lt, arith, lit<}
 use lib.Arith.{mod-mul}
 use Rattle.encoding.specs.Words.{word4, word8, number4, number8}
 

@@ -1,5 +1,5 @@
 -- Calls as bytes. Assumes nothing.
-use Rattle.std.specs.Prelude.{◌≡◌, ℕ, ◌+◌, ◌^◌, ◌<◌, List, [], ◌∷◌, ◌++◌, length, sum_by}
+use Rattle.std.specs.Prelude.{◌≡◌, ℕ, ◌^◌, ◌<◌, List, [], ◌∷◌, ◌++◌, length}
 use Rattle.std.specs.List.{flat_map, AllByRecursion as All}
 use Rattle.frames.specs.declared.frame.Frame.{Frame}
 use Rattle.picker.specs.Calls.{Called, offering, reading, looking, counting, printing, clearing}

@@ -1,5 +1,5 @@
 -- What the set of all places, and of all but one, chooses. Assumes nothing.
-use Rattle.std.proofs.Common.{◌≡◌, ℕ, zero, suc, ◌+◌, ◌-◌, ◌*◌, ◌/◌, ◌%◌, ◌^◌, ◌<◌, true, false, eqb, List, [], ◌∷◌, length, sym, refl, ap, ◌∙◌, arith}
+use Rattle.std.proofs.Common.{◌≡◌, ℕ, zero, suc, ◌+◌, ◌-◌, ◌*◌, ◌/◌, ◌%◌, ◌^◌, ◌<◌, true, false, eqb, List, [], ◌∷◌, length, refl, ap, ◌∙◌, arith}
 use native.Mathlib.Nat.{pow-succ'}
 use Rattle.std.specs.List.{remove}
 use Rattle.std.proofs.lemmas.Nat.{pow_pos, pow_below}

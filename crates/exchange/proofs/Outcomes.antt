@@ -1,5 +1,5 @@
 -- What the tests of a judgement come to, and what a step of the replay is by its outcome. Assumes nothing.
-use Rattle.std.proofs.Common.{◌≡◌, ℕ, ◌*◌, ◌<◌, ◌≤◌, Bool, true, false, cond, eqb, ltb, leb, List, ◌∷◌, length, Some, None, Option, sym, refl, ap, ◌∙◌, subst, arith}
+use Rattle.std.proofs.Common.{◌≡◌, ℕ, ◌*◌, ◌<◌, Bool, true, false, cond, eqb, ltb, leb, List, ◌∷◌, length, Some, None, Option, sym, refl, ap, ◌∙◌, arith}
 use Rattle.std.proofs.lemmas.Bool.{ne_eqb, ltb-true, and_parts, cond-false, cond_both}
 use Rattle.theory.specs.Lightest.{LightestIs}
 use Rattle.theory.specs.Replay.{State, gains, lightest, gain_of, keep, offer, swap, step, may_take, has_room}
@@ -9,7 +9,7 @@ use Rattle.frames.specs.declared.frame.Frame.{Frame}
 use Rattle.kept.specs.Tables.{frame_at, gain_at}
 use Rattle.exchange.specs.declared.outcome.Outcome.{Outcome}
 use Rattle.exchange.specs.declared.outcome.Outcome.TheVariants.{Empty, Kept, Swapped, Light, Barred}
-use Rattle.exchange.specs.Outcomes.{displaced, outcome_of, kept_after, accepted, told_by, PlaceStands}
+use Rattle.exchange.specs.Outcomes.{displaced, outcome_of, kept_after, accepted, PlaceStands}
 
 module _ (adm : List Frame → Bool) (n : ℕ) (es : List (Frame × ℕ)) (x : Frame) (g : ℕ) (pos : 0 < g) where
   pub kept_outcome : has_room adm n es x ≡ true → Kept (length es) g ≡ outcome_of adm n es x g

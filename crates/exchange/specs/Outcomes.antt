@@ -1,7 +1,7 @@
 -- What becomes of an offered frame, and what is kept then. Assumes nothing.
 use Rattle.std.specs.Prelude.{◌≡◌, ℕ, ◌*◌, Bool, true, false, cond, List, [], ◌∷◌, ◌++◌, length, Some, None, Option, ◌==◌, nat_le, slice_set}
 use Rattle.theory.specs.Lightest.{LightestIs}
-use Rattle.theory.specs.Replay.{frames, gains, lightest, may_take, has_room}
+use Rattle.theory.specs.Replay.{gains, lightest, may_take, has_room}
 use Rattle.frames.specs.declared.frame.Frame.{Frame}
 use Rattle.kept.specs.Tables.{frame_at, gain_at}
 use Rattle.exchange.specs.declared.outcome.Outcome.{Outcome}

@@ -33,7 +33,9 @@ pub extern "C" fn fogetsu_capped_facility_laminar(
 ) -> u64
     ensures { Exported (capped_facility_laminar_fault size weights.now most caps.now parents.now) (capped_facility weights.now cap table.now) (truncated_laminar most caps.now parents.now) size calls.now answers.old result answers.new }
 {
-    piles::fogetsu_capped_facility_laminar(size, weights, cap, table, most, caps, parents, calls, answers)
+    piles::fogetsu_capped_facility_laminar(
+        size, weights, cap, table, most, caps, parents, calls, answers,
+    )
 }
 
 // The sum of concave counts and coverage, over the direct sum of the graphic matroid and a partition matroid.

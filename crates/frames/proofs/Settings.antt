@@ -1,10 +1,9 @@
 -- What it means that a list of settings is not refused. Assumes nothing.
-use Rattle.std.proofs.Common.{◌≡◌, ℕ, ◌+◌, ◌<◌, ◌≤◌, Bool, true, false, cond, eqb, leb, List, [], ◌∷◌, length, get_or, drop, Some, None, Option, sym, refl, ap, ◌∙◌, ⊎_elim, arith}
+use Rattle.std.proofs.Common.{◌≡◌, ℕ, ◌+◌, ◌<◌, ◌≤◌, eqb, leb, List, [], ◌∷◌, length, get_or, drop, Some, None, sym, ◌∙◌, ⊎_elim, arith}
 use Rattle.std.specs.List.{AllByRecursion as All}
 use Rattle.std.proofs.lemmas.List.{at_drop_more, at_drop_all}
 use Rattle.std.proofs.lemmas.Bool.{cases_Bool, leb-true, le-leb, lt-leb, eqb-true, eq-eqb, ne_eqb, cond-true, cond-false}
 use Rattle.frames.specs.declared.refusal.Refusal.TheVariants.{Over, Miscount}
-use Rattle.frames.specs.declared.setting.SettingFault.{SettingFault}
 use Rattle.frames.specs.Settings.{first_over, numbers_fault}
 
 some_none : {X : Type 0} (x : X) → Some x ≡ None → ⊥

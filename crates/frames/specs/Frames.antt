@@ -1,5 +1,5 @@
 -- Frames: when two are equal, and which a shift may take in. Assumes nothing.
-use Rattle.std.specs.Prelude.{ℕ, ◌≤◌, Bool, ◌&&◌, ◌==◌, nat_le}
+use Rattle.std.specs.Prelude.{◌≤◌, Bool, ◌&&◌, ◌==◌, nat_le}
 use Rattle.frames.specs.declared.frame.Frame.{Frame}
 
 -- all seven numbers are equal

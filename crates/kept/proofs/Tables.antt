@@ -1,8 +1,7 @@
 -- What a table's reads and writes come to. Assumes nothing.
-use Rattle.std.proofs.Common.{◌≡◌, ℕ, zero, suc, ◌+◌, ◌-◌, ◌^◌, ◌<◌, ◌≤◌, List, [], ◌∷◌, ◌++◌, map, length, get_or, take, set, sym, refl, ap, ◌∙◌, arith}
+use Rattle.std.proofs.Common.{◌≡◌, ℕ, zero, suc, ◌<◌, List, [], ◌∷◌, map, length, get_or, take, set, sym, refl, ap, ◌∙◌, arith}
 use Rattle.std.proofs.lemmas.List.{length-take-le, length-map, get_or-take, get_or-map}
 use Rattle.theory.specs.Replay.{frames, gains}
-use Rattle.frames.specs.declared.frame.Frame.{Frame}
 use Rattle.frames.specs.declared.entry.Entry.{Entry}
 use Rattle.kept.specs.declared.table.KeptTable.{KeptTable}
 use Rattle.kept.specs.Tables.{entries_of, pairs, held, no_frame, frame_at, gain_at}

@@ -1,5 +1,5 @@
 -- Concave counts once each lane has had some frames. Assumes nothing.
-use Rattle.std.proofs.Common.{◌≡◌, ℕ, zero, suc, ◌+◌, ◌-◌, ◌*◌, ◌<◌, ◌≤◌, min, true, false, eqb, List, [], ◌∷◌, length, get_or, take, drop, set, replicate, sum_by, sum, count_by, sym, refl, ap, ◌∙◌, inr, ⊎_elim, zero-add, arith}
+use Rattle.std.proofs.Common.{◌≡◌, ℕ, zero, suc, ◌+◌, ◌*◌, ◌<◌, ◌≤◌, min, true, false, eqb, List, [], ◌∷◌, length, get_or, take, drop, set, replicate, sum_by, sum, count_by, sym, refl, ap, ◌∙◌, inr, ⊎_elim, zero-add, arith}
 use mathlib.Core.Path.{fun_ext}
 use Rattle.std.specs.List.{range_with_len, AllByRecursion as All}
 use Rattle.std.proofs.lemmas.List.{length-take, length-drop, get_or-take, get_or-drop, get_or_past, get_or-set_same, get_or-set_other, drop-drop, drop_all}

@@ -1,5 +1,5 @@
 -- What it means that the settings of a tree are refused, or not. Assumes nothing.
-use Rattle.std.proofs.Common.{◌≡◌, ℕ, zero, suc, ◌+◌, ◌<◌, ◌≤◌, true, false, cond, eqb, List, [], ◌∷◌, length, get_or, drop, Some, None, Option, sym, ap, ◌∙◌, ⊎_elim, arith}
+use Rattle.std.proofs.Common.{◌≡◌, ℕ, zero, suc, ◌+◌, ◌<◌, ◌≤◌, true, false, eqb, List, [], ◌∷◌, length, get_or, drop, Some, None, Option, sym, ap, ◌∙◌, ⊎_elim, arith}
 use Rattle.std.proofs.lemmas.List.{at_drop_more, get_or_default, get_or_past}
 use Rattle.std.proofs.lemmas.Bool.{cases_Bool, cases_eq, cases_lt, eq-eqb, ne_eqb, cond-true, cond-false}
 use Rattle.frames.specs.declared.refusal.Refusal.TheVariants.{Miscount, BadParent}
@@ -7,7 +7,6 @@ use Rattle.frames.specs.declared.setting.SettingFault.{SettingFault}
 use Rattle.frames.specs.Settings.{numbers_fault}
 use Rattle.frames.proofs.Settings.{numbers_accepted}
 use Rattle.kinds.specs.Matroids.{parent_of, may_hold, Parents}
-use Rattle.kinds.proofs.Lanes.{parents_from}
 use Rattle.kinds.proofs.Objectives.{get_d_le}
 use Rattle.laminar.specs.Trees.{first_bad_parent, or_else, laminar_fault}
 

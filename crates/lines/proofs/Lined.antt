@@ -1,5 +1,5 @@
 -- A line of a text that was read step by step: the key, the line feed, the value.
-use Rattle.std.proofs.Common.{◌≡◌, ℕ, ◌+◌, ◌-◌, ◌<◌, ◌≤◌, min, Bool, true, false, eqb, ◌⊎◌, List, [], ◌∷◌, ◌++◌, length, take, drop, Ok, Err, Result, sym, refl, ap, ◌∙◌, subst, inl, inr, arith, length-drop, length-take}
+use Rattle.std.proofs.Common.{◌≡◌, ℕ, ◌+◌, ◌<◌, ◌≤◌, min, true, eqb, List, length, take, drop, Ok, Err, Result, sym, ap, ◌∙◌, subst, inl, inr, arith, length-drop, length-take}
 use Rattle.std.proofs.lemmas.List.Prefix.{front_fits}
 use Rattle.std.proofs.lemmas.List.{drop-drop, length-take-le}
 use Rattle.std.specs.List.{common_prefix_len}
@@ -7,7 +7,7 @@ use Rattle.spots.specs.Faults.{spot}
 use Rattle.records.specs.Format.{key_bytes, longest, highest}
 use Rattle.records.specs.Of.{key_of, digits_of, behind}
 use Rattle.lines.specs.Lines.{Taken, Judged, Passed, LineRead, LineMeans}
-use Rattle.records.specs.Reading.{amiss, bad_form, over, due, line_of, key_amiss, end_amiss, before_feed, number_in, base_of, form_of, judged, read_value, read_line, line_fault_at}
+use Rattle.records.specs.Reading.{amiss, bad_form, over, due, line_of, key_amiss, end_amiss, before_feed, form_of, judged, read_value, read_line}
 use Rattle.spots.specs.declared.fault.LineFault.{LineFault}
 use Rattle.records.specs.declared.key.Key.{Key}
 use Rattle.records.specs.declared.key.Key.TheVariants.{Number, Marks, Look, Lane, Tail, Head, Side}

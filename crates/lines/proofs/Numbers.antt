@@ -1,6 +1,6 @@
 -- The number that digits of a base write, digit by digit.
-use Rattle.std.proofs.Common.{◌≡◌, ℕ, ◌+◌, ◌*◌, ◌^◌, ◌<◌, ◌≤◌, Bool, true, false, ◌&&◌, ltb, List, [], ◌∷◌, map, length, get_or, drop, sym, refl, ap, ◌∙◌, mul-le-mul, arith, pow_mono, pow-add}
-use Rattle.std.proofs.lemmas.List.{at_drop_more, at_drop_all}
+use Rattle.std.proofs.Common.{◌≡◌, ℕ, ◌+◌, ◌*◌, ◌^◌, ◌<◌, ◌≤◌, false, ◌&&◌, List, map, length, get_or, drop, sym, ap, ◌∙◌, mul-le-mul, arith, pow_mono, pow-add}
+use Rattle.std.proofs.lemmas.List.{at_drop_more}
 use Rattle.std.proofs.lemmas.Bool.{lt-ltb, le-ltb, and_left}
 use Rattle.std.specs.Int.Digits.{number_from_digits_after}
 use Rattle.records.specs.Reading.{digit, digits_in}

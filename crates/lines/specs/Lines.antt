@@ -1,12 +1,12 @@
 -- What is told of one line. Assumes nothing.
-use Rattle.std.specs.Prelude.{◌≡◌, ℕ, ◌+◌, ◌<◌, ◌≤◌, Bool, true, false, ◌⊎◌, List, [], ◌∷◌, ◌++◌, length, drop, Ok, Err, Option, Result, ◌≢◌, nat_eq}
+use Rattle.std.specs.Prelude.{◌≡◌, ℕ, ◌+◌, ◌<◌, ◌≤◌, Bool, true, false, ◌⊎◌, List, ◌∷◌, ◌++◌, length, drop, Ok, Err, Option, Result, ◌≢◌, nat_eq}
 use Rattle.std.specs.Borrow.{Bor}
 use Rattle.std.specs.Option as options
 use Rattle.std.specs.Result as results
 use Rattle.std.specs.List.{common_prefix_len}
 use Rattle.records.specs.Format.{key_bytes, highest, shown_line}
 use Rattle.records.specs.Of.{key_of, digits_of, behind}
-use Rattle.records.specs.Reading.{Amiss, digits_in, number_in, read_line, line_fault_at, base_of, form_of}
+use Rattle.records.specs.Reading.{Amiss, number_in, read_line, line_fault_at, base_of, form_of}
 use Rattle.spots.specs.declared.fault.LineFault.{LineFault}
 use Rattle.spots.specs.declared.fault.LineFault.TheVariants.{BadForm, Over}
 use Rattle.spots.specs.declared.fault.Spot.{Spot}

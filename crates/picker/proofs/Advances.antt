@@ -1,17 +1,16 @@
 -- From one frame's outcome to the replay's step. Assumes nothing.
 use Rattle.std.proofs.Common.{◌≡◌, ℕ, ◌+◌, ◌-◌, Bool, List, [], ◌∷◌, ◌++◌, length, sym, ap, ◌∙◌, arith}
-use Rattle.theory.specs.Laws.{Lawful}
-use Rattle.theory.specs.Replay.{State, gain_of, step}
+use Rattle.theory.specs.Replay.{State}
 use Rattle.theory.specs.Promise.{told}
 use Rattle.frames.specs.declared.frame.Frame.{Frame}
-use Rattle.objectives.specs.Meanings.{ObjectiveLaws, Added}
+use Rattle.objectives.specs.Meanings.{ObjectiveLaws}
 use Rattle.exchange.specs.declared.outcome.Outcome.{Outcome}
 use Rattle.exchange.specs.Outcomes.{outcome_of}
 use Rattle.kept.specs.Tables.{held}
 use Rattle.exchange.proofs.Outcomes.{settled, step_outcome}
 use Rattle.picker.specs.declared.picker.Picker.{Picker}
 use Rattle.picker.specs.Entries.{total}
-use Rattle.picker.specs.Offers.{Standing, standing, along, After, Advanced, verdict}
+use Rattle.picker.specs.Offers.{along, Advanced, verdict}
 use Rattle.picker.specs.Settling.{Passing, Accepting}
 
 -- what p keeps, with nothing accepted yet

@@ -1,7 +1,7 @@
 -- From what a picker has met to the promise of the label. Assumes nothing.
-use Rattle.std.proofs.Common.{◌≡◌, ℕ, ◌+◌, ◌-◌, ◌*◌, ◌≤◌, Bool, true, false, cond, ◌||◌, eqb, ltb, leb, List, [], ◌∷◌, ◌++◌, length, take, Some, None, Err, MatchBool, sum_by, Option, Result, sym, refl, ap, ◌∙◌, subst, arith}
+use Rattle.std.proofs.Common.{◌≡◌, ℕ, ◌-◌, ◌*◌, ◌≤◌, Bool, true, false, cond, ◌||◌, eqb, ltb, leb, List, [], ◌∷◌, ◌++◌, length, take, Some, None, Err, MatchBool, sum_by, Option, Result, sym, refl, ap, ◌∙◌, subst, arith}
 use mathlib.Core.Path.{fun_ext}
-use Rattle.std.proofs.lemmas.List.{length-map, append-nil}
+use Rattle.std.proofs.lemmas.List.{length-map}
 use Rattle.std.proofs.lemmas.List.Sums.{fold_push}
 use Rattle.theory.specs.Bag.{Choice}
 use Rattle.theory.specs.Digits.{binary_length}
@@ -24,8 +24,8 @@ use Rattle.records.specs.Reading.{frames_in}
 use Rattle.picker.specs.declared.picker.Picker.{Picker}
 use Rattle.picker.specs.Entries.{total}
 use Rattle.picker.specs.Calls.{Called, offering, reading, clearing, arrive, arrive_by, arrivals}
-use Rattle.picker.specs.Label.{Label, Beside, nothing, Met, Labelled, Bounded, Carries, Promises}
-use Rattle.picker.specs.Offers.{Standing, After, Advanced, Answered, Offered, Emptied, refusal_of}
+use Rattle.picker.specs.Label.{nothing, Met, Labelled, Bounded, Promises}
+use Rattle.picker.specs.Offers.{After, Advanced, Answered, Offered, Emptied, refusal_of}
 use Rattle.picker.specs.Texts.{taken_in, text_answer, TextOffered}
 use Rattle.picker.proofs.Onward.{after_more}
 

@@ -1,9 +1,7 @@
 -- The theorems of reading and printing.
-use Rattle.std.proofs.Common.{◌≡◌, ℕ, List, ap, ◌∙◌}
-use Rattle.frames.specs.declared.frame.Frame.{Frame}
-use Rattle.records.specs.Claims.{LineStands, DecimalStands, RecordStands, TextStands, ReadingStands}
+use Rattle.std.proofs.Common.{ap, ◌∙◌}
+use Rattle.records.specs.Claims.{ReadingStands}
 use Rattle.records.specs.Reading.{read_decimal_line, read_line, read_record}
-use Rattle.records.specs.declared.key.Key.{Key}
 use Rattle.records.proofs.Roundtrip.{read_line_shown, line_shown, read_decimal, decimal_read, read_shown, record_shown}
 use Rattle.records.proofs.TextCases.{text_splits, split_unique}
 

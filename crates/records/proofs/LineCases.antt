@@ -1,8 +1,8 @@
 -- What `read_due` answers, case by case.
-use Rattle.std.proofs.Common.{◌≡◌, ℕ, ◌+◌, ◌<◌, ◌≤◌, Bool, true, false, cond, eqb, ltb, leb, List, [], ◌∷◌, ◌++◌, length, take, drop, Ok, Err, Result, sym, refl, ap, ◌∙◌, arith}
+use Rattle.std.proofs.Common.{◌≡◌, ℕ, ◌+◌, ◌<◌, ◌≤◌, true, false, eqb, List, length, take, drop, Ok, Err, sym, ap, ◌∙◌, arith}
 use Rattle.std.proofs.lemmas.Bool.{eq-eqb, ne_eqb, lt-ltb, le-ltb, le-leb, lt-leb, cond-true, cond-false}
 use Rattle.std.specs.List.{common_prefix_len}
-use Rattle.records.specs.Reading.{Due, Amiss, amiss, over, bad_form, key_amiss, end_amiss, before_feed, number_in, judged, read_value, read_due}
+use Rattle.records.specs.Reading.{Due, amiss, over, bad_form, key_amiss, end_amiss, before_feed, number_in, judged, read_value, read_due}
 
 module _ (d : Due) (s : List ℕ) where
   pub no_key : common_prefix_len eqb d.key s < length d.key → read_due d s ≡ Err (key_amiss d.key s)

@@ -1,12 +1,7 @@
 -- What `read_record` answers, line by line.
-use Rattle.std.proofs.Common.{◌≡◌, ℕ, ◌+◌, ◌-◌, ◌≤◌, List, length, drop, IsErrAnd, Ok, Err, Result, sym, refl, ap, ◌∙◌, arith, length-drop}
-use Rattle.std.proofs.lemmas.Result.{err_from_is_err_and}
-use Rattle.frames.specs.declared.frame.Frame.{Frame}
+use Rattle.std.proofs.Common.{◌≡◌, ℕ, ◌+◌, ◌-◌, ◌≤◌, List, length, drop, Ok, Err, sym, ap, ◌∙◌, arith, length-drop}
 use Rattle.spots.specs.Faults.{spot}
-use Rattle.records.specs.Reading.{Why, wrong_key, bad_form, over, cut, Amiss, Wrong, told, fault, line_of, read_line, wrong_in, read_record, fault_at, line_fault_at}
-use Rattle.spots.specs.declared.fault.LineFault.{LineFault}
-use Rattle.faults.specs.declared.fault.RecordFault.{RecordFault}
-use Rattle.faults.specs.declared.fault.RecordFault.TheVariants.{Line}
+use Rattle.records.specs.Reading.{Why, wrong_key, bad_form, over, cut, Amiss, told, fault, line_of, read_line, wrong_in, read_record, fault_at, line_fault_at}
 use Rattle.records.specs.declared.key.Key.{Key}
 use Rattle.records.specs.declared.key.Key.TheVariants.{Number, Marks, Look, Lane, Tail, Head, Side}
 

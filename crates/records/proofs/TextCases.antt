@@ -1,8 +1,6 @@
 -- The records at the front of a text.
-use Rattle.std.proofs.Common.{◌≡◌, ℕ, zero, suc, ◌+◌, ◌<◌, ◌≤◌, Bool, true, false, ◌⊎◌, List, [], ◌∷◌, ◌++◌, length, drop, is_err, Ok, Err, Result, sym, refl, ap, ◌∙◌, subst, inl, inr, ⊎_elim, append_assoc, arith, length-append, length-drop}
-use mathlib.Core.List.{append_cancel_left}
-use Rattle.std.specs.List.{flat_map, AllByRecursion as All}
-use Rattle.frames.specs.Frames.{InRange}
+use Rattle.std.proofs.Common.{◌≡◌, ℕ, zero, suc, ◌+◌, ◌<◌, ◌≤◌, true, ◌⊎◌, List, [], ◌∷◌, ◌++◌, length, is_err, Ok, Err, Result, sym, refl, ap, ◌∙◌, subst, inl, inr, ⊎_elim, append_assoc, arith, length-append}
+use Rattle.std.specs.List.{flat_map}
 use Rattle.frames.specs.declared.frame.Frame.{Frame}
 use Rattle.records.specs.Format.{shown}
 use Rattle.records.specs.Reading.{Wrong, read_record, frames_up_to, left_up_to, frames_in, left_in}

@@ -1,14 +1,12 @@
 -- From the promise of the label to plain numbers. Assumes nothing.
-use Rattle.std.proofs.Common.{◌≡◌, ℕ, ◌<◌, ◌≤◌, Bool, true, List, [], ◌∷◌, map, length, Some, sum_by, Option, ap, subst, arith}
+use Rattle.std.proofs.Common.{◌≡◌, ℕ, ◌≤◌, List, [], ◌∷◌, map, Some, sum_by, ap, subst, arith}
 use Rattle.std.specs.List.{AllByRecursion as All, slice_get}
 use Rattle.std.proofs.lemmas.List.{length-map}
-use Rattle.theory.specs.Bag.{Choice}
 use Rattle.theory.specs.Digits.{binary_length}
 use Rattle.theory.specs.Replay.{frames}
 use Rattle.theory.proofs.Places.{length_drawn}
 use Rattle.frames.specs.declared.frame.Frame.{Frame}
-use Rattle.picker.specs.Label.{Label, Beside}
-use Rattle.runs.specs.Plain.{Plain, LabelStands}
+use Rattle.runs.specs.Plain.{LabelStands}
 
 all_arrived : (xs : List Frame) (ps : List ℕ) (s : List Frame) → map (slice_get xs) ps ≡ map Some s → All (λ x. (p : ℕ) × (slice_get xs p ≡ Some x)) s
 all_arrived xs ps [] e = tt

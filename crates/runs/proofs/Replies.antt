@@ -1,7 +1,7 @@
 -- What a picker answers, by the calls that led to it. Assumes nothing.
-use Rattle.std.proofs.Common.{◌≡◌, ℕ, ◌+◌, ◌-◌, Bool, true, false, cond, leb, List, [], ◌∷◌, ◌++◌, map, length, Some, None, Ok, Err, MatchBool, Option, Result, sym, refl, ap, ◌∙◌, subst, ap₂, arith}
+use Rattle.std.proofs.Common.{◌≡◌, ℕ, ◌-◌, Bool, true, false, cond, leb, List, [], ◌∷◌, map, length, Some, None, Ok, Err, MatchBool, Option, Result, sym, refl, ap, ◌∙◌, ap₂, arith}
 use Rattle.theory.specs.Promise.{told}
-use Rattle.theory.specs.Replay.{State, gain_of}
+use Rattle.theory.specs.Replay.{gain_of}
 use Rattle.theory.proofs.Later.{parts_swap}
 use Rattle.frames.specs.declared.entry.Entry.{Entry}
 use Rattle.frames.specs.declared.frame.Frame.{Frame}
@@ -15,11 +15,10 @@ use Rattle.report.specs.declared.counts.Counts.{Counts}
 use Rattle.report.specs.Digest.{digest}
 use Rattle.exchange.specs.declared.outcome.Outcome.{Outcome}
 use Rattle.exchange.specs.Outcomes.{outcome_of}
-use Rattle.kept.specs.Tables.{entries_of, pairs, held}
+use Rattle.kept.specs.Tables.{entries_of, pairs}
 use Rattle.picker.specs.declared.picker.Picker.{Picker}
 use Rattle.picker.specs.Calls.{Called, arrivals}
 use Rattle.picker.specs.Counted.{counts_of}
-use Rattle.picker.specs.Entries.{total}
 use Rattle.picker.specs.Label.{Met}
 use Rattle.picker.specs.Offers.{Advanced, Answered, Offered, refusal_of, verdict}
 use Rattle.picker.specs.Texts.{taken_in, text_answer, TextOffered}

@@ -6,7 +6,6 @@ use Rattle.theory.specs.Replay.{gain_of}
 use Rattle.frames.specs.declared.frame.Frame.{Frame}
 use Rattle.frames.specs.declared.refusal.Refusal.{Refusal}
 use Rattle.frames.specs.declared.refusal.Refusal.TheVariants.{NoPlace, ShortSheet}
-use Rattle.faults.specs.declared.fault.TextFault.{TextFault}
 use Rattle.faults.specs.declared.fault.TextFault.TheVariants.{LongText}
 use Rattle.records.specs.Sheets.{over}
 use Rattle.exchange.specs.declared.outcome.Outcome.{Outcome}

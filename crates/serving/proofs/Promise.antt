@@ -1,5 +1,5 @@
 -- The promise at any point of a run. Assumes nothing.
-use Rattle.std.proofs.Common.{◌≡◌, ℕ, Bool, List, length, sym, refl, ap, ◌∙◌, arith}
+use Rattle.std.proofs.Common.{ℕ, Bool, List, refl, arith}
 use Rattle.std.proofs.lemmas.List.{length-map}
 use Rattle.theory.specs.Laws.{MatroidLaws}
 use Rattle.theory.specs.Promise.{Promised}

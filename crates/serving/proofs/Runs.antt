@@ -14,7 +14,7 @@ use Rattle.encoding.specs.Requests.{Requested, called_of, Encodes}
 use Rattle.encoding.specs.declared.request.Request.{Request}
 use Rattle.serving.specs.Answering.{Answered}
 use Rattle.serving.specs.Serving.{due_of, due_all, answered, answered_all}
-use Rattle.serving.proofs.Walks.{Behind, behind, ended, head_long, no_call}
+use Rattle.serving.proofs.Walks.{behind, ended, head_long, no_call}
 
 put_long : (a k : ℕ) (xs ys : List ℕ) → length ys ≡ k → a + k ≤ length xs → length (put_mid a k xs ys) ≡ length xs
 put_long a k xs ys e h =

@@ -1,10 +1,10 @@
 -- The laws hold of a small case, and a replay of it computes. Assumes nothing.
-use Rattle.std.proofs.Common.{◌≡◌, ℕ, zero, suc, ◌+◌, ◌*◌, ◌<◌, ◌≤◌, min, Bool, true, false, cond, eqb, leb, List, [], ◌∷◌, ◌++◌, length, sum_by, count_by, sym, refl, ap, ◌∙◌, arith}
-use Rattle.std.proofs.lemmas.List.Sums.{sum_by-cons, count_by-le-length}
+use Rattle.std.proofs.Common.{◌≡◌, ℕ, suc, min, Bool, true, cond, eqb, leb, List, [], ◌∷◌, length, sum_by, count_by, refl, arith}
+use Rattle.std.proofs.lemmas.List.Sums.{sum_by-cons}
 use Rattle.std.proofs.lemmas.Bool.{eqb-true, eq-eqb, leb-true, le-leb}
-use Rattle.theory.specs.Bag.{Same, count}
+use Rattle.theory.specs.Bag.{Same}
 use Rattle.theory.specs.Laws.{Submodular, MatroidLaws}
-use Rattle.theory.specs.Replay.{State, replay}
+use Rattle.theory.specs.Replay.{replay}
 use Rattle.theory.specs.Promise.{Promised}
 use Rattle.theory.proofs.Orders.{orderless_after, orderless_sum_by, orderless_length, occurs_more}
 use Rattle.theory.proofs.Theorem.{stands}

@@ -1,5 +1,5 @@
 -- What a replay keeps true at each step. Assumes nothing.
-use Rattle.std.proofs.Common.{◌≡◌, ℕ, zero, suc, ◌+◌, ◌-◌, ◌*◌, ◌<◌, ◌≤◌, Bool, true, false, cond, List, [], ◌∷◌, ◌++◌, length, get_or, set, sum_by, sym, refl, ap, ◌∙◌, subst, arith}
+use Rattle.std.proofs.Common.{◌≡◌, ℕ, ◌+◌, ◌*◌, ◌<◌, ◌≤◌, Bool, true, cond, List, [], ◌∷◌, ◌++◌, length, get_or, set, sum_by, sym, ap, ◌∙◌, subst, arith}
 use Rattle.std.specs.List.{remove, AllByRecursion as All}
 use Rattle.std.proofs.ByRecursion.{All-weaker}
 use Rattle.std.proofs.lemmas.List.{map_push, map-set, get_or-map, length-map, length-set, length_push}
@@ -7,12 +7,12 @@ use Rattle.std.proofs.lemmas.List.Sums.{sum_by_push, sum_by-set}
 use Rattle.theory.specs.Bag.{Same, count, Within, Alike}
 use Rattle.theory.specs.Laws.{Submodular, MatroidLaws}
 use Rattle.theory.specs.Digits.{binary_length}
-use Rattle.theory.specs.Replay.{State, frames, gains, gain_of, keep, swap, step}
+use Rattle.theory.specs.Replay.{State, frames, gain_of, keep, swap, step}
 use Rattle.theory.proofs.Bags.{count_append, count_set, count_removed}
 use Rattle.theory.proofs.Digits.{binary_length_twice, binary_length_pos}
-use Rattle.theory.proofs.Values.{Earns, earns_push, earns_set, earns_more, worth_alike}
+use Rattle.theory.proofs.Values.{Earns, earns_push, earns_set, earns_more}
 use Rattle.theory.proofs.Fitting.{Fits, adm_alike}
-use Rattle.theory.proofs.Steps.{Passes, Takes, step-ways}
+use Rattle.theory.proofs.Steps.{Takes, step-ways}
 use Rattle.theory.proofs.Span.{Barred, barred_empty, barred_passed, barred_push, barred_swap}
 use Rattle.theory.proofs.Places.{Sourced, sourced_more, sourced_push, sourced_set}
 use Rattle.theory.proofs.Passed.{Passed}

@@ -1,7 +1,7 @@
 -- `lightest` finds the place that counts and has the least gain, the lowest on a tie. Assumes nothing.
-use Rattle.std.proofs.Common.{◌≡◌, ℕ, zero, suc, ◌+◌, ◌<◌, ◌≤◌, Bool, true, false, cond, leb, List, [], ◌∷◌, length, get_or, Some, None, Option, sym, refl, ap, ◌∙◌, arith}
+use Rattle.std.proofs.Common.{◌≡◌, ℕ, zero, suc, Bool, true, false, cond, leb, List, [], ◌∷◌, get_or, Some, None, Option, refl, arith}
 use Rattle.std.proofs.lemmas.Bool.{leb-true, leb-false, both_ways}
-use Rattle.theory.specs.Lightest.{LightestBelow, LightestIs}
+use Rattle.theory.specs.Lightest.{LightestIs}
 use Rattle.theory.specs.Replay.{lighter, lightest}
 
 pub lightest_is : (counts : ℕ → Bool) (gs : List ℕ) → LightestIs counts gs (lightest counts gs)

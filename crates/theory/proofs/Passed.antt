@@ -1,8 +1,7 @@
 -- A choice from what was accepted and what was passed: what it takes of each, and its bound. Assumes nothing.
-use Rattle.std.proofs.Common.{◌≡◌, ℕ, zero, suc, ◌+◌, ◌*◌, ◌<◌, ◌≤◌, Bool, true, false, cond, ◌⊎◌, List, [], ◌∷◌, ◌++◌, length, sum_by, sym, refl, ap, ◌∙◌, inl, inr, ⊎_elim, arith}
+use Rattle.std.proofs.Common.{◌≡◌, ℕ, ◌+◌, ◌<◌, ◌≤◌, Bool, true, false, cond, List, [], ◌∷◌, ◌++◌, sum_by, refl, ap, ⊎_elim, arith}
 use Rattle.std.specs.List.{AllByRecursion as All}
 use Rattle.std.proofs.ByRecursion.{All-weaker}
-use Rattle.std.proofs.lemmas.List.Sums.{sum_by-cons}
 use Rattle.std.proofs.lemmas.Bool.{cases_lt}
 use Rattle.theory.specs.Bag.{Same, count, Within, Alike}
 use Rattle.theory.specs.Laws.{Submodular, MatroidLaws}
@@ -10,7 +9,7 @@ use Rattle.theory.specs.Replay.{State, frames}
 use Rattle.theory.proofs.Bags.{without, count_append, count_without}
 use Rattle.theory.proofs.Layers.{tall, layers}
 use Rattle.theory.proofs.Heavy.{heavy, heavy_within, length_heavy, heavy_has}
-use Rattle.theory.proofs.Values.{worth_alike, worth_within, worth-sum}
+use Rattle.theory.proofs.Values.{worth_within, worth-sum}
 use Rattle.theory.proofs.Fitting.{Fits, fits_named, fits_within, fits_exchange}
 use Rattle.theory.proofs.Span.{twice, Barred}
 

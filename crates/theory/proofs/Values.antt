@@ -1,8 +1,8 @@
 -- What the laws of an objective give. Assumes nothing.
-use Rattle.std.proofs.Common.{◌≡◌, ℕ, zero, suc, ◌+◌, ◌<◌, ◌≤◌, Bool, true, false, cond, List, [], ◌∷◌, ◌++◌, length, set, sum_by, sym, refl, ap, ◌∙◌, subst, arith}
+use Rattle.std.proofs.Common.{◌≡◌, ℕ, zero, suc, ◌+◌, ◌≤◌, Bool, List, [], ◌∷◌, ◌++◌, set, sum_by, arith}
 use Rattle.std.specs.List.{AllByRecursion as All}
 use Rattle.std.proofs.lemmas.List.Sums.{sum_by-cons}
-use Rattle.theory.specs.Bag.{Same, count, Within, Alike}
+use Rattle.theory.specs.Bag.{Same, Within, Alike}
 use Rattle.theory.specs.Laws.{Submodular}
 use Rattle.theory.specs.Replay.{frames}
 use Rattle.theory.proofs.Bags.{count_append, rest_of, by_counts}

@@ -1,7 +1,7 @@
 -- What a step gives, by the tests that code makes. Assumes nothing.
-use Rattle.std.proofs.Common.{◌≡◌, ℕ, zero, suc, ◌+◌, ◌*◌, ◌<◌, ◌≤◌, Bool, true, false, cond, ◌&&◌, eqb, ltb, leb, List, [], ◌∷◌, length, get_or, Some, None, Option, sym, refl, ap, ◌∙◌, ⊎_elim, arith}
+use Rattle.std.proofs.Common.{◌≡◌, ℕ, ◌*◌, ◌<◌, ◌≤◌, Bool, true, false, cond, List, get_or, Some, None, Option, refl, ap, ◌∙◌, ⊎_elim, arith}
 use Rattle.std.proofs.lemmas.Bool.{cases_order, le-leb, lt-leb, eq-eqb, ne_eqb}
-use Rattle.theory.specs.Replay.{State, frames, gains, lightest, gain_of, keep, swap, offer, may_take, has_room, step}
+use Rattle.theory.specs.Replay.{State, gains, lightest, gain_of, keep, swap, offer, may_take, has_room, step}
 use Rattle.theory.specs.Lightest.{LightestIs}
 use Rattle.theory.proofs.Lightest.{lightest_is}
 

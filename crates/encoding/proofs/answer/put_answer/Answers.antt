@@ -1,5 +1,4 @@
-use Rattle.std.proofs.Common.{◌≡◌, sym, refl, ap, ◌∙◌}
-use Rattle.runs.specs.declared.call.Answer.TheVariants.{Cleared}
+use Rattle.std.proofs.Common.{sym, ap, ◌∙◌}
 use Rattle.encoding.specs.Answers.{answer_bytes, placed, said_bytes, texted_bytes, looked_bytes, printed_bytes}
 use Rattle.encoding.proofs.Placing.{placed_none}
 use Rattle.encoding.proofs.answer.put_answer.Goals as goal

@@ -1,4 +1,4 @@
-use Rattle.std.proofs.Common.{◌≡◌, ◌<◌, ◌++◌, length, sym, refl, ap, ◌∙◌, arith}
+use Rattle.std.proofs.Common.{◌++◌, length, sym, refl, arith}
 use Rattle.std.proofs.lemmas.List.{length-append}
 use Rattle.encoding.proofs.Placing.{placed_both, placed_long}
 use Rattle.encoding.proofs.put.put_both.Goals as goal

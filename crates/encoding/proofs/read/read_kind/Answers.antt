@@ -1,4 +1,4 @@
-use Rattle.std.proofs.Common.{◌≡◌, ◌∷◌, sym, refl, ap, subst, rules}
+use Rattle.std.proofs.Common.{◌∷◌, sym, ap, subst}
 use Rattle.encoding.specs.Reading.{Reads}
 use Rattle.encoding.proofs.Heads.{no_offer, no_text, no_look, no_print, offer_head, text_head, look_head, print_head, counts_head, clear_head}
 use Rattle.encoding.proofs.read.read_kind.Goals as goal

@@ -1,4 +1,4 @@
-use Rattle.std.proofs.Common.{◌≡◌, sym, refl, subst, arith}
+use Rattle.std.proofs.Common.{sym, refl, subst, arith}
 use Rattle.encoding.specs.Reading.{Reads}
 use Rattle.std.proofs.lemmas.List.{take_rest}
 use Rattle.encoding.proofs.Heads.{begins}

@@ -1,4 +1,4 @@
-use Rattle.std.proofs.Common.{◌≡◌, ◌+◌, ◌-◌, take, drop, sym, subst, arith}
+use Rattle.std.proofs.Common.{◌≡◌, ◌+◌, ◌-◌, take, drop, subst, arith}
 use Rattle.encoding.specs.Reading.{TextAs}
 use Rattle.encoding.proofs.Texts.{text_as}
 use Rattle.encoding.proofs.read.text_in.Goals as goal

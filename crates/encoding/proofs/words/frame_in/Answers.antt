@@ -1,4 +1,4 @@
-use Rattle.std.proofs.Common.{◌≡◌, ℕ, length, get_or, take, drop, ap, ◌∙◌, ap₂, arith, Fits}
+use Rattle.std.proofs.Common.{ℕ, get_or, ap, ◌∙◌, ap₂, arith}
 use Rattle.std.proofs.lemmas.List.{take_rest}
 use Rattle.frames.specs.declared.frame.Frame.{Frame}
 use Rattle.encoding.specs.Words.{number8}

@@ -1,7 +1,7 @@
-use Rattle.std.proofs.Common.{◌≡◌, ◌*◌, ◌≤◌, leb, get_or, sym, ap, ◌∙◌, arith}
+use Rattle.std.proofs.Common.{◌*◌, ◌≤◌, leb, get_or, sym, ap, ◌∙◌, arith}
 use Rattle.std.proofs.lemmas.Bool.{le-leb, cond-true}
 use Rattle.exchange.specs.declared.outcome.Outcome.TheVariants.{Swapped, Light}
-use Rattle.kept.specs.Tables.{entries_of, held, frame_at, gain_at}
+use Rattle.kept.specs.Tables.{held, frame_at, gain_at}
 use Rattle.kept.proofs.Tables.{entry_frame, no_entry}
 use Rattle.exchange.proofs.judge.contest.Goals as goal
 

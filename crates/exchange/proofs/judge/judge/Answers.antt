@@ -1,4 +1,4 @@
-use Rattle.std.proofs.Common.{◌≡◌, ◌+◌, ◌-◌, ◌<◌, length, take, Some, None, sym, ap, ◌∙◌, subst, arith}
+use Rattle.std.proofs.Common.{◌≡◌, ◌<◌, length, Some, None, sym, ap, ◌∙◌, subst, arith}
 use Rattle.exchange.specs.declared.outcome.Outcome.TheVariants.{Kept}
 use Rattle.exchange.specs.Outcomes.{PlaceStands}
 use Rattle.kept.specs.Tables.{held}

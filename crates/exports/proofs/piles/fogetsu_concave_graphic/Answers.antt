@@ -1,4 +1,4 @@
-use Rattle.std.proofs.Common.{◌≡◌, ℕ, ◌+◌, min, Bool, List, ap, ◌∙◌, ap₂}
+use Rattle.std.proofs.Common.{◌≡◌, ℕ, ◌+◌, min, List, ap, ◌∙◌, ap₂}
 use Rattle.kinds.specs.Objectives.{concave, steps_of}
 use Rattle.frames.specs.declared.frame.Frame.{Frame}
 use Rattle.exports.specs.Piles.{argument, coverage_of, concave_coverage, graphic_partition}

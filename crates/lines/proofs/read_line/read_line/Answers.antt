@@ -1,5 +1,5 @@
-use Rattle.std.proofs.Common.{◌≡◌, ℕ, ◌+◌, ◌-◌, ◌<◌, ◌≤◌, List, length, take, drop, Err, sym, refl, ap, ◌∙◌, subst, arith, length-drop, length-take, rules}
-use Rattle.records.specs.Format.{key_bytes, longest}
+use Rattle.std.proofs.Common.{◌≡◌, ℕ, ◌+◌, ◌-◌, length, take, Err, sym, ap, ◌∙◌, subst, arith, length-drop, length-take, rules}
+use Rattle.records.specs.Format.{key_bytes}
 use Rattle.lines.specs.Lines.{Taken, Judged, LineRead}
 use Rattle.spots.specs.Faults.{spot}
 use Rattle.spots.specs.declared.fault.Spot.{Spot}

@@ -1,4 +1,4 @@
-use Rattle.std.proofs.Common.{◌≡◌, ℕ, ◌≤◌, List, [], None, sum_by, Option, sym, ap, ◌∙◌, subst, ap₂, arith}
+use Rattle.std.proofs.Common.{◌≡◌, ℕ, ◌≤◌, List, [], None, sum_by, Option, ap, ◌∙◌, subst, ap₂, arith}
 use Rattle.theory.specs.Digits.{binary_length}
 use Rattle.theory.specs.Replay.{replay}
 use Rattle.frames.specs.declared.frame.Frame.{Frame}

@@ -1,10 +1,9 @@
-use Rattle.std.proofs.Common.{◌≡◌, cond, leb, length, sym, refl, ap, ◌∙◌, subst}
+use Rattle.std.proofs.Common.{sym, refl, ap, ◌∙◌, subst}
 use Rattle.std.specs.Option.{ok_or}
 use Rattle.std.specs.List.{slice_get}
 use Rattle.frames.specs.declared.refusal.Refusal.TheVariants.{NoPlace}
 use Rattle.records.specs.Sheets.{Printed as PrintedAs}
 use Rattle.runs.specs.declared.call.Answer.TheVariants.{Offered, Texted, Looked, Counted, Printed, Cleared}
-use Rattle.runs.specs.declared.call.Call.TheVariants.{Offer, Text, Look, Counts, Print, Clear}
 use Rattle.runs.specs.Carried.{Carried}
 use Rattle.runs.specs.Histories.{digest_after}
 use Rattle.runs.specs.Runs.{called}

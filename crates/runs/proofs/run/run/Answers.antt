@@ -1,4 +1,4 @@
-use Rattle.std.proofs.Common.{◌≡◌, List, [], take, None, sym, refl, ap, ◌∙◌, subst}
+use Rattle.std.proofs.Common.{◌≡◌, List, [], take, None, sym, refl, ◌∙◌, subst}
 use Rattle.std.proofs.lemmas.List.{take_all, at_drop_all}
 use Rattle.frames.specs.declared.frame.Frame.{Frame}
 use Rattle.kept.specs.Tables.{held}

@@ -1,4 +1,4 @@
-use Rattle.std.proofs.Common.{◌≡◌, ◌≤◌, length, sym, arith}
+use Rattle.std.proofs.Common.{◌≤◌, length, sym, arith}
 use Rattle.std.proofs.lemmas.List.{get_or_past}
 use Rattle.theory.specs.Replay.{gains}
 use Rattle.kept.specs.Tables.{held}

@@ -1,5 +1,4 @@
-use Rattle.std.proofs.Common.{map, refl, ap, rules}
-use Rattle.frames.specs.declared.entry.Entry.{Entry}
+use Rattle.std.proofs.Common.{refl, ap, rules}
 use Rattle.kept.specs.Tables.{pairs}
 use Rattle.picker.specs.Offers.{Emptied}
 use Rattle.picker.proofs.Labels.{met_clear}

@@ -1,4 +1,4 @@
-use Rattle.std.proofs.Common.{◌≡◌, ℕ, List, refl, subst, ap₂}
+use Rattle.std.proofs.Common.{refl, subst, ap₂}
 use Rattle.records.specs.Sheets.{Printed}
 use Rattle.report.specs.Digest.{digest, ReadsBack}
 use Rattle.kept.specs.Tables.{entries_of}

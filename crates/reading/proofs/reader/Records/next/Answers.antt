@@ -1,4 +1,4 @@
-use Rattle.std.proofs.Common.{◌≡◌, ◌+◌, ◌<◌, [], length, drop, refl, arith}
+use Rattle.std.proofs.Common.{◌≡◌, ◌+◌, [], drop, refl, arith}
 use Rattle.std.proofs.lemmas.List.{drop_all}
 use Rattle.reading.proofs.Turns.{next_by_text, next_refused}
 use Rattle.reading.proofs.reader.Records.next.Goals as goal
