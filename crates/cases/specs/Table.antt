@@ -1,6 +1,6 @@
 -- The worked cases of the product. Assumes nothing.
 use Rattle.std.specs.Prelude.{ℕ, true, false, List, [], ◌∷◌, ◌++◌, replicate, Ok, Err, codes}
-use Rattle.std.specs.List.{AllByRecursion as All}
+use Rattle.std.specs.List.{AllByRecursion}
 use Rattle.exchange.specs.declared.outcome.Outcome.TheVariants.{Swapped, Light}
 use Rattle.cases.specs.Case.{Case, Holds, offered, printed, size, marked, stepped, joined, boxed, weighed, look, look_at_end}
 use Rattle.cases.specs.Five.{records_of_five, frames_of_five, outcomes_of_five, digest_of_five}
@@ -44,4 +44,4 @@ table =
 
 -- each case of the table holds
 abbrev pub CasesStand : Type 0
-CasesStand = All Holds table
+CasesStand = AllByRecursion Holds table

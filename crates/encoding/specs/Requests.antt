@@ -1,6 +1,6 @@
 -- Calls as bytes. Assumes nothing.
 use Rattle.std.specs.Prelude.{◌≡◌, ℕ, ◌^◌, ◌<◌, List, [], ◌∷◌, ◌++◌, length}
-use Rattle.std.specs.List.{flat_map, AllByRecursion as All}
+use Rattle.std.specs.List.{flat_map, AllByRecursion}
 use Rattle.frames.specs.declared.frame.Frame.{Frame}
 use Rattle.picker.specs.Calls.{Called, offering, reading, looking, counting, printing, clearing}
 use Rattle.encoding.specs.Words.{word4, word8}
@@ -66,7 +66,7 @@ Fits clear = Unit {0}
 -- the bytes are those of the calls, one after the other
 pub record Encodes (cs : List Requested) (bytes : List ℕ) : Type 0 where
   pub joins : flat_map bytes_of cs ≡ bytes
-  pub fit : All Fits cs
+  pub fit : AllByRecursion Fits cs
 
 -- bytes are those of one list of calls at most
 abbrev pub OneReading : Type 0

@@ -1,6 +1,6 @@
 -- What it means that a list of settings is not refused. Assumes nothing.
 use Rattle.std.proofs.Common.{◌≡◌, ℕ, ◌+◌, ◌<◌, ◌≤◌, eqb, leb, List, [], ◌∷◌, length, get_or, drop, Some, None, sym, ◌∙◌, ⊎_elim, arith}
-use Rattle.std.specs.List.{AllByRecursion as All}
+use Rattle.std.specs.List.{AllByRecursion}
 use Rattle.std.proofs.lemmas.List.{at_drop_more, at_drop_all}
 use Rattle.std.proofs.lemmas.Bool.{cases_Bool, leb-true, le-leb, lt-leb, eqb-true, eq-eqb, ne_eqb, cond-true, cond-false}
 use Rattle.frames.specs.declared.refusal.Refusal.TheVariants.{Over, Miscount}
@@ -9,7 +9,7 @@ use Rattle.frames.specs.Settings.{first_over, numbers_fault}
 some_none : {X : Type 0} (x : X) → Some x ≡ None → ⊥
 some_none x e = let z : ◌≡◌ {A = ℕ} 0 1 = cc in omega arith
 
-over_none : (highest i : ℕ) (ns : List ℕ) → first_over highest i ns ≡ None → All (λ n. n ≤ highest) ns
+over_none : (highest i : ℕ) (ns : List ℕ) → first_over highest i ns ≡ None → AllByRecursion (λ n. n ≤ highest) ns
 over_none highest i [] e = tt
 over_none highest i (n ∷ ns) e =
     ⊎_elim
@@ -18,7 +18,7 @@ over_none highest i (n ∷ ns) e =
     (cases_Bool (leb n highest))
 
 -- a list that is not refused has as many numbers as it should, each at most the highest
-pub numbers_accepted : (count highest : ℕ) (ns : List ℕ) → numbers_fault count highest ns ≡ None → (length ns ≡ count) × All (λ n. n ≤ highest) ns
+pub numbers_accepted : (count highest : ℕ) (ns : List ℕ) → numbers_fault count highest ns ≡ None → (length ns ≡ count) × AllByRecursion (λ n. n ≤ highest) ns
 unfolding numbers_fault
 numbers_accepted count highest ns e =
     ⊎_elim

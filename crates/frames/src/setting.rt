@@ -1,6 +1,6 @@
 ghost use Rattle.std.specs.Prelude.{◌≡◌, ◌≤◌, length, OnOk};
 ghost use Rattle.std.specs.Result.{result_err};
-ghost use Rattle.std.specs.List.{AllByRecursion as All};
+ghost use Rattle.std.specs.List.{AllByRecursion};
 ghost use Rattle.frames.specs.Settings.{numbers_fault};
 
 use crate::refusal::Refusal;
@@ -16,7 +16,7 @@ pub struct SettingFault {
 // Checks a list of settings: it has `count` numbers, each at most `highest`.
 pub fn check_numbers(numbers: &[u32], count: usize, highest: u32) -> Result<(), SettingFault>
     ensures fault { result_err result ≡ numbers_fault count highest numbers.now }
-    ensures accepted { OnOk result ((length numbers.now ≡ count) × All (λ n. n ≤ highest) numbers.now) }
+    ensures accepted { OnOk result ((length numbers.now ≡ count) × AllByRecursion (λ n. n ≤ highest) numbers.now) }
 {
     if numbers.len() != count {
         return Err(SettingFault {

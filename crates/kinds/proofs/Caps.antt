@@ -1,7 +1,7 @@
 -- Caps on boxes, one after another. Assumes nothing.
 use Rattle.std.proofs.Common.{◌≡◌, ℕ, zero, suc, ◌+◌, ◌<◌, ◌≤◌, Bool, true, false, cond, not, ◌&&◌, leb, ◌⊎◌, List, [], ◌∷◌, count_by, filter, sym, refl, ap, ◌∙◌, subst, ap₂, inl, inr, ⊎_elim, arith}
 use mathlib.Core.Bool.{and-true, and_assoc}
-use Rattle.std.specs.List.{AllByRecursion as All}
+use Rattle.std.specs.List.{AllByRecursion}
 use Rattle.std.proofs.ByRecursion.{kept_by_passes}
 use Rattle.std.proofs.lemmas.List.Filters.{sum_by-filter_both}
 use Rattle.std.proofs.lemmas.Bool.{cases_Bool, cases_lt, both_ways, and_parts, and_from, not-true, leb-true, le-leb}
@@ -30,7 +30,7 @@ sum-leb : (a b c : ℕ) → (a ≡ 0) ⊎ ((b ≡ 0) ⊎ (c ≡ 0)) → leb (a +
 sum-leb a b c h = grind arith
 
 -- a frame of s that passes r; P holds of all of s
-found : {A : Type 0} (r : A → Bool) (P : A → Type 0) (s : List A) → All P s → 0 < count_by r s → (x : A) × (r x ≡ true) × P x
+found : {A : Type 0} (r : A → Bool) (P : A → Type 0) (s : List A) → AllByRecursion P s → 0 < count_by r s → (x : A) × (r x ≡ true) × P x
 found r P [] a h = absurd (omega arith)
 found r P (x ∷ s) a h = ⊎_elim (λ e. (x, e, a.0)) (λ e. found r P s a.1 (omega (arith, h, count_at r x s false e))) (cases_Bool (r x))
 

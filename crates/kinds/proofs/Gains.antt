@@ -1,14 +1,14 @@
 -- Sums over indices, and what one frame more adds to them. Assumes nothing.
 use Rattle.std.proofs.Common.{◌≡◌, ℕ, zero, suc, ◌+◌, ◌/◌, ◌%◌, ◌^◌, ◌<◌, ◌≤◌, max, Bool, true, false, cond, not, ◌&&◌, ◌||◌, eqb, ◌⊎◌, List, [], ◌∷◌, get_or, sum_by, sym, refl, ap, ◌∙◌, inl, inr, ⊎_elim, arith}
 use lib.Bits.{bit_or, or_step}
-use Rattle.std.specs.List.{range_with_len, AllByRecursion as All}
+use Rattle.std.specs.List.{range_with_len, AllByRecursion}
 use Rattle.std.proofs.lemmas.Nat.{or_shr}
 use Rattle.std.proofs.lemmas.List.Sums.{sum_by-cons}
 use Rattle.std.proofs.lemmas.Bool.{cases_eq, eq-eqb, ne_eqb}
 use Rattle.kinds.specs.Objectives.{some, shows, of_class, coverage}
 use Rattle.kinds.proofs.Objectives.{all_counting}
 
-sum_adds : {I : Type 0} (a b c : I → ℕ) (is : List I) → All (λ i. a i ≡ b i + c i) is → sum_by a is ≡ sum_by b is + sum_by c is
+sum_adds : {I : Type 0} (a b c : I → ℕ) (is : List I) → AllByRecursion (λ i. a i ≡ b i + c i) is → sum_by a is ≡ sum_by b is + sum_by c is
 sum_adds a b c [] h = refl
 sum_adds a b c (i ∷ is) h = omega (arith, h.0, sum_adds a b c is h.1, sum_by-cons a i is, sum_by-cons b i is, sum_by-cons c i is)
 

@@ -1,7 +1,7 @@
 -- Ways to make one submodular function of others. Assumes nothing.
 use Rattle.std.proofs.Common.{◌≡◌, ℕ, suc, ◌+◌, ◌*◌, ◌≤◌, min, max, Bool, true, false, cond, ◌||◌, List, [], ◌∷◌, sum_by, count_by, sym, refl, ap, ◌∙◌, subst, mul-le-mul_left, mul-add, arith}
 use mathlib.Core.Path.{fun_ext}
-use Rattle.std.specs.List.{AllByRecursion as All}
+use Rattle.std.specs.List.{AllByRecursion}
 use Rattle.std.proofs.lemmas.List.Sums.{sum_by-cons}
 use Rattle.theory.specs.Laws.{Submodular}
 use Rattle.theory.proofs.Orders.{orderless_after, orderless_fold, orderless_sum_by}
@@ -38,7 +38,7 @@ module _ {A : Type 0} {f : List A → ℕ} (w : Submodular f) (c : ℕ) where
   }
 
 -- a sum over indices
-pub sum_lawful : {A I : Type 0} (f : I → List A → ℕ) (is : List I) → All (λ i. Submodular (f i)) is → Submodular (λ s. sum_by (λ i. f i s) is)
+pub sum_lawful : {A I : Type 0} (f : I → List A → ℕ) (is : List I) → AllByRecursion (λ i. Submodular (f i)) is → Submodular (λ s. sum_by (λ i. f i s) is)
 sum_lawful f [] h = record { nothing = refl; order = λ p x y s. refl; more = λ x s. omega arith; falls = λ x y s. omega arith }
 sum_lawful f (i ∷ is) h = lawful_same (λ s. sym (sum_by-cons (λ j. f j s) i is)) (plus_lawful h.0 (sum_lawful f is h.1))
 

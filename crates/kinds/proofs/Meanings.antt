@@ -1,6 +1,6 @@
 -- What the tests of independence say, of a bag and of one frame more. Assumes nothing.
 use Rattle.std.proofs.Common.{◌≡◌, ℕ, ◌+◌, ◌-◌, ◌<◌, ◌≤◌, Bool, true, false, cond, eqb, ltb, leb, ◌⊎◌, ◌↔◌, List, [], ◌∷◌, length, get_or, set, count_by, sym, refl, ap, ◌∙◌, subst, inl, inr, ⊎_elim, arith}
-use Rattle.std.specs.List.{AllByRecursion as All}
+use Rattle.std.specs.List.{AllByRecursion}
 use Rattle.std.proofs.ByRecursion.{All-weaker}
 use Rattle.std.proofs.lemmas.List.{get_or-set_same, get_or-set_other}
 use Rattle.std.proofs.lemmas.List.Sums.{sum_by-cons}
@@ -11,13 +11,13 @@ use Rattle.kinds.proofs.Counts.{count_at}
 use Rattle.kinds.proofs.Caps.{under-true, under_from}
 
 -- none passes p
-none_means : {A : Type 0} (p : A → Bool) (s : List A) → (few p 0 s ≡ true) ↔ All (λ x. p x ≡ false) s
+none_means : {A : Type 0} (p : A → Bool) (s : List A) → (few p 0 s ≡ true) ↔ AllByRecursion (λ x. p x ≡ false) s
 none_means p [] = (λ h. tt, λ h. refl)
 none_means p (x ∷ s) = (λ h. ⊎_elim (λ e. absurd (omega (arith, leb-true (count_by p (x ∷ s)) 0 h, count_at p x s true e))) (λ e. (e, (none_means p s).0 (ap (λ n. leb n 0) (sym (count_at p x s false e)) ∙ h))) (cases_Bool (p x)), λ h. ap (λ n. leb n 0) (count_at p x s false h.0) ∙ (none_means p s).1 h.1)
 
 -- all frames are of lanes, and no box has more than its cap
 abbrev pub Roomy : {A : Type 0} → (A → ℕ) → (ℕ → A → Bool) → List ℕ → ℕ → List A → Type 0
-Roomy lane box caps n s = All (λ x. lane x < 64) s × ((j : ℕ) → j < n → count_by (box j) s ≤ get_or caps j 0)
+Roomy lane box caps n s = AllByRecursion (λ x. lane x < 64) s × ((j : ℕ) → j < n → count_by (box j) s ≤ get_or caps j 0)
 
 -- x is of a lane, and each box that it lies in has fewer frames than its cap
 abbrev pub RoomFor : {A : Type 0} → (A → ℕ) → (ℕ → A → Bool) → List ℕ → ℕ → List A → A → Type 0

@@ -1,7 +1,7 @@
 -- Concave counts once each lane has had some frames. Assumes nothing.
 use Rattle.std.proofs.Common.{◌≡◌, ℕ, zero, suc, ◌+◌, ◌*◌, ◌<◌, ◌≤◌, min, true, false, eqb, List, [], ◌∷◌, length, get_or, take, drop, set, replicate, sum_by, sum, count_by, sym, refl, ap, ◌∙◌, inr, ⊎_elim, zero-add, arith}
 use mathlib.Core.Path.{fun_ext}
-use Rattle.std.specs.List.{range_with_len, AllByRecursion as All}
+use Rattle.std.specs.List.{range_with_len, AllByRecursion}
 use Rattle.std.proofs.lemmas.List.{length-take, length-drop, get_or-take, get_or-drop, get_or_past, get_or-set_same, get_or-set_other, drop-drop, drop_all}
 use Rattle.std.proofs.ByRecursion.{All-take, All-drop, All-from_get_or, sum_by_le}
 use Rattle.std.proofs.lemmas.List.Sums.{sum_by-cons}
@@ -30,7 +30,7 @@ sum_first (x ∷ xs) n = omega (arith, sum_by-cons (λ y. y) x (take n xs))
 -- at most eight steps, none above 8,388,607, that never rise
 pub record Steps (xs : List ℕ) : Type 0 where
   pub few : length xs ≤ 8
-  pub low : All (λ n. n ≤ 8388607) xs
+  pub low : AllByRecursion (λ n. n ≤ 8388607) xs
   pub falls : Falling xs
 
 module _ (xs : List ℕ) (h : Steps xs) where

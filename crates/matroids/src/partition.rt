@@ -1,6 +1,6 @@
 ghost use Rattle.std.specs.Prelude.{◌≡◌, ℕ, ◌≤◌, ◌&&◌, List, ◌∷◌, length, IfOk, if◌then◌else◌, MatchResult, slice_index};
 ghost use Rattle.std.specs.Result.{result_err};
-ghost use Rattle.std.specs.List.{AllByRecursion as All};
+ghost use Rattle.std.specs.List.{AllByRecursion};
 ghost use Rattle.kinds.specs.Matroids.{partition};
 ghost use Rattle.kinds.proofs.Lanes.{partition_matroid};
 ghost use Rattle.frames.specs.declared.frame.Frame.{Frame as FrameOf};
@@ -63,7 +63,7 @@ impl Matroid for PartitionMatroid {
 
 // The caps, each in a byte.
 fn narrowed(caps: &[u32]) -> [u8; 64]
-    requires { (length caps.now ≡ 64) × (All (λ c. c ≤ 48) caps.now) }
+    requires { (length caps.now ≡ 64) × (AllByRecursion (λ c. c ≤ 48) caps.now) }
     ensures { result ≡ caps.now }
 {
     let mut bytes = [0; 64];

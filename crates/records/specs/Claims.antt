@@ -1,6 +1,6 @@
 -- What reading and printing promise each other. Assumes nothing.
 use Rattle.std.specs.Prelude.{◌≡◌, ℕ, ◌^◌, ◌<◌, ◌≤◌, true, List, [], ◌∷◌, ◌++◌, is_err, Ok, decimal}
-use Rattle.std.specs.List.{flat_map, AllByRecursion as All}
+use Rattle.std.specs.List.{flat_map, AllByRecursion}
 use Rattle.frames.specs.Frames.{InRange}
 use Rattle.frames.specs.declared.frame.Frame.{Frame}
 use Rattle.records.specs.Format.{highest, shown_line, shown}
@@ -25,7 +25,7 @@ pub record RecordStands (s : List ℕ) (x : Frame) (rest : List ℕ) : Type 0 wh
 -- a text is the records of some frames, each in range, and what is left, where no record can be read
 pub record Split (text : List ℕ) (fs : List Frame) (rest : List ℕ) : Type 0 where
   pub printed : text ≡ flat_map shown fs ++ rest
-  pub range : All InRange fs
+  pub range : AllByRecursion InRange fs
   pub stops : is_err (read_record rest) ≡ true
 
 -- a text is split so into its frames and what is left, and in no other way

@@ -1,6 +1,6 @@
 -- From the promise of the label to plain numbers. Assumes nothing.
 use Rattle.std.proofs.Common.{◌≡◌, ℕ, ◌≤◌, List, [], ◌∷◌, map, Some, sum_by, ap, subst, arith}
-use Rattle.std.specs.List.{AllByRecursion as All, slice_get}
+use Rattle.std.specs.List.{AllByRecursion, slice_get}
 use Rattle.std.proofs.lemmas.List.{length-map}
 use Rattle.theory.specs.Digits.{binary_length}
 use Rattle.theory.specs.Replay.{frames}
@@ -8,7 +8,7 @@ use Rattle.theory.proofs.Places.{length_drawn}
 use Rattle.frames.specs.declared.frame.Frame.{Frame}
 use Rattle.runs.specs.Plain.{LabelStands}
 
-all_arrived : (xs : List Frame) (ps : List ℕ) (s : List Frame) → map (slice_get xs) ps ≡ map Some s → All (λ x. (p : ℕ) × (slice_get xs p ≡ Some x)) s
+all_arrived : (xs : List Frame) (ps : List ℕ) (s : List Frame) → map (slice_get xs) ps ≡ map Some s → AllByRecursion (λ x. (p : ℕ) × (slice_get xs p ≡ Some x)) s
 all_arrived xs ps [] e = tt
 all_arrived xs [] (x ∷ s) e = let z : ◌≡◌ {A = ℕ} 0 1 = cc in absurd (omega arith)
 all_arrived xs (p ∷ ps) (x ∷ s) e = ((p, cc), all_arrived xs ps s cc)

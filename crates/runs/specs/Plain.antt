@@ -1,6 +1,6 @@
 -- What the promise of the label comes to in plain numbers. Assumes nothing.
 use Rattle.std.specs.Prelude.{◌≡◌, ℕ, ◌*◌, ◌<◌, ◌≤◌, Bool, true, List, [], ◌∷◌, length, Some}
-use Rattle.std.specs.List.{AllByRecursion as All, slice_get}
+use Rattle.std.specs.List.{AllByRecursion, slice_get}
 use Rattle.theory.specs.Replay.{frames, replay}
 use Rattle.frames.specs.declared.frame.Frame.{Frame}
 use Rattle.picker.specs.Label.{Label, Beside}
@@ -9,7 +9,7 @@ pub record Plain (f : List Frame → ℕ) (adm : List Frame → Bool) (n : ℕ) 
   pub allowed : adm (frames es) ≡ true
   -- no more than the size are kept, and each of them arrived
   pub kept : length es ≤ n
-  pub arrived : All (λ x. (p : ℕ) × (slice_get xs p ≡ Some x)) (frames es)
+  pub arrived : AllByRecursion (λ x. (p : ℕ) × (slice_get xs p ≡ Some x)) (frames es)
   -- no arrival that may stand alone is worth more than four times what is kept
   pub single : 0 < n → (p : ℕ) (x : Frame) → slice_get xs p ≡ Some x → adm (x ∷ []) ≡ true → f (x ∷ []) ≤ 4 * f (frames es)
   -- all frames ever accepted are worth at most twice what is kept

@@ -1,6 +1,6 @@
 -- The frames of the entries whose weight is at least t. Assumes nothing.
 use Rattle.std.proofs.Common.{◌≡◌, ℕ, zero, suc, ◌+◌, ◌<◌, ◌≤◌, Bool, true, false, cond, leb, List, [], ◌∷◌, ◌++◌, length, get_or, set, refl, ap, arith}
-use Rattle.std.specs.List.{AllByRecursion as All}
+use Rattle.std.specs.List.{AllByRecursion}
 use Rattle.std.proofs.lemmas.Bool.{leb-true, leb-false, le-leb, lt-leb}
 use Rattle.theory.specs.Bag.{count}
 use Rattle.theory.specs.Replay.{frames}
@@ -24,7 +24,7 @@ module _ {A : Type 0} (v : A × ℕ → ℕ) (t : ℕ) where
       go false ih = omega arith
 
   -- an entry that was found heavy, of entries that are all as Q says
-  pub heavy_has : (same : A → A → Bool) (Q : A × ℕ → Type 0) (x : A) (es : List (A × ℕ)) → All Q es → 0 < count same x (heavy v t es) → (e : A × ℕ) × Q e × (same x e.0 ≡ true) × (t ≤ v e)
+  pub heavy_has : (same : A → A → Bool) (Q : A × ℕ → Type 0) (x : A) (es : List (A × ℕ)) → AllByRecursion Q es → 0 < count same x (heavy v t es) → (e : A × ℕ) × Q e × (same x e.0 ≡ true) × (t ≤ v e)
   heavy_has same Q x [] q h = absurd (omega arith)
   heavy_has same Q x (e ∷ es) q h = go (leb t (v e)) refl (same x e.0) refl h (λ k. heavy_has same Q x es q.1 k)
     where

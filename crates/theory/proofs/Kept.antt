@@ -1,6 +1,6 @@
 -- What a replay keeps true at each step. Assumes nothing.
 use Rattle.std.proofs.Common.{◌≡◌, ℕ, ◌+◌, ◌*◌, ◌<◌, ◌≤◌, Bool, true, cond, List, [], ◌∷◌, ◌++◌, length, get_or, set, sum_by, sym, ap, ◌∙◌, subst, arith}
-use Rattle.std.specs.List.{remove, AllByRecursion as All}
+use Rattle.std.specs.List.{remove, AllByRecursion}
 use Rattle.std.proofs.ByRecursion.{All-weaker}
 use Rattle.std.proofs.lemmas.List.{map_push, map-set, get_or-map, length-map, length-set, length_push}
 use Rattle.std.proofs.lemmas.List.Sums.{sum_by_push, sum_by-set}
@@ -26,7 +26,7 @@ pub record Inv {A : Type 0} (same : A → A → Bool) (f : List A → ℕ) (adm 
   pub took : length st.accepted ≤ sum_by (λ e. binary_length e.1) st.kept
   pub passed : List (A × ℕ)
   pub offered : Alike same (st.accepted ++ frames passed) seen
-  pub barred : All (Passed f adm n st) passed
+  pub barred : AllByRecursion (Passed f adm n st) passed
 
 module _ {A : Type 0} {same : A → A → Bool} (eq : Same same) {f : List A → ℕ} (w : Submodular f) {adm : List A → Bool} (room : MatroidLaws same adm) (n : ℕ) where
   -- the frame x is passed, with the gain that it had

@@ -1,6 +1,6 @@
 -- A choice from what was accepted and what was passed: what it takes of each, and its bound. Assumes nothing.
 use Rattle.std.proofs.Common.{◌≡◌, ℕ, ◌+◌, ◌<◌, ◌≤◌, Bool, true, false, cond, List, [], ◌∷◌, ◌++◌, sum_by, refl, ap, ⊎_elim, arith}
-use Rattle.std.specs.List.{AllByRecursion as All}
+use Rattle.std.specs.List.{AllByRecursion}
 use Rattle.std.proofs.ByRecursion.{All-weaker}
 use Rattle.std.proofs.lemmas.Bool.{cases_lt}
 use Rattle.theory.specs.Bag.{Same, count, Within, Alike}
@@ -18,7 +18,7 @@ pub record Parted {A : Type 0} (same : A → A → Bool) (Q : A × ℕ → Type 
   pub b : List A
   pub ds : List (A × ℕ)
   pub within : Within same b a
-  pub all : All Q ds
+  pub all : AllByRecursion Q ds
   pub alike : Alike same (b ++ frames ds) c
 
 module _ {A : Type 0} {same : A → A → Bool} (eq : Same same) where
@@ -29,7 +29,7 @@ module _ {A : Type 0} {same : A → A → Bool} (eq : Same same) where
       go true p = omega (arith, ap (λ w. count same w c) (eq.tells z e p))
       go false p = let u : ◌≡◌ {A = ℕ} (cond (same z e) 1 0) 0 = ap (λ w. cond w 1 0) p in omega (arith, h z, count_append same z a s, count_append same z a (e ∷ s))
 
-  pub part_choice : (Q : A × ℕ → Type 0) (a : List A) (es : List (A × ℕ)) (c : List A) → All Q es → Within same c (a ++ frames es) → Parted same Q a c
+  pub part_choice : (Q : A × ℕ → Type 0) (a : List A) (es : List (A × ℕ)) (c : List A) → AllByRecursion Q es → Within same c (a ++ frames es) → Parted same Q a c
   part_choice Q a [] c q h = record { b = c; ds = []; within = λ z. omega (arith, h z, count_append same z a []); all = tt; alike = λ z. omega (arith, count_append same z c []) }
   part_choice Q a (e ∷ es) c q h =
       ⊎_elim (λ has. add has (part_choice Q a es (without same e.0 c) q.1 (λ z. omega (arith, h z, count_without eq z e.0 c has, count_append same z a (frames es), count_append same z a (e.0 ∷ frames es)))))
@@ -44,7 +44,7 @@ Passed f adm n st e = Barred adm n st.kept e × (f (e.0 ∷ st.accepted) ≤ f s
 
 module _ {A : Type 0} {same : A → A → Bool} (eq : Same same) {adm : List A → Bool} (room : MatroidLaws same adm) (n : ℕ) where
   -- of barred entries that fit together no more are at least t than of the kept ones
-  layer_le : (es ds : List (A × ℕ)) → Fits adm n (frames es) → Fits adm n (frames ds) → All (Barred adm n es) ds → (t : ℕ) → 0 < t → tall (λ e. e.1) t ds ≤ tall twice t es
+  layer_le : (es ds : List (A × ℕ)) → Fits adm n (frames es) → Fits adm n (frames ds) → AllByRecursion (Barred adm n es) ds → (t : ℕ) → 0 < t → tall (λ e. e.1) t ds ≤ tall twice t es
   layer_le es ds fe fd bars t pos = ⊎_elim (λ l. absurd (no l)) (λ k. k) (cases_lt (tall twice t es) (tall (λ e. e.1) t ds))
     where
       no : tall twice t es < tall (λ e. e.1) t ds → ⊥
@@ -54,7 +54,7 @@ module _ {A : Type 0} {same : A → A → Bool} (eq : Same same) {adm : List A �
           has.1 t pos has.3 (fits_named eq room n got.0 has.0.0 (heavy twice t es) has.2 got.2)
 
   -- the bound of every choice that fits
-  pub choice_bound : {f : List A → ℕ} (w : Submodular f) (st : State A) (passed : List (A × ℕ)) (c : List A) → Fits adm n (frames st.kept) → All (Passed f adm n st) passed → Within same c (st.accepted ++ frames passed) → Fits adm n c → f c ≤ f st.accepted + sum_by twice st.kept
+  pub choice_bound : {f : List A → ℕ} (w : Submodular f) (st : State A) (passed : List (A × ℕ)) (c : List A) → Fits adm n (frames st.kept) → AllByRecursion (Passed f adm n st) passed → Within same c (st.accepted ++ frames passed) → Fits adm n c → f c ≤ f st.accepted + sum_by twice st.kept
   choice_bound {f} w st passed c fits all in' fc =
       let r = part_choice eq (Passed f adm n st) st.accepted passed c all in' in
       let a = st.accepted in

@@ -1,6 +1,6 @@
 -- Distinct places of the arrivals, and the bag of what stands there. Assumes nothing.
 use Rattle.std.proofs.Common.{◌≡◌, ℕ, zero, suc, ◌+◌, ◌<◌, ◌≤◌, Bool, cond, ◌≢◌, List, [], ◌∷◌, ◌++◌, map, length, set, Some, None, Option, sym, refl, ap, ◌∙◌, ap₂, arith}
-use Rattle.std.specs.List.{AllByRecursion as All, slice_get}
+use Rattle.std.specs.List.{AllByRecursion, slice_get}
 use Rattle.std.proofs.ByRecursion.{All-weaker, All-push, All-set}
 use Rattle.std.proofs.lemmas.List.{map_push, map-set}
 use Rattle.theory.specs.Bag.{count, Within, Distinct, Drawn}
@@ -20,7 +20,7 @@ downs [] = []
 downs (zero ∷ ps) = downs ps
 downs (suc p ∷ ps) = p ∷ downs ps
 
-downs_apart : (p : ℕ) (ps : List ℕ) → All (λ q. q ≢ suc p) ps → All (λ q. q ≢ p) (downs ps)
+downs_apart : (p : ℕ) (ps : List ℕ) → AllByRecursion (λ q. q ≢ suc p) ps → AllByRecursion (λ q. q ≢ p) (downs ps)
 downs_apart p [] h = tt
 downs_apart p (zero ∷ ps) h = downs_apart p ps h.1
 downs_apart p (suc q ∷ ps) h = (λ e. h.0 (ap suc e), downs_apart p ps h.1)
@@ -35,7 +35,7 @@ module _ {A : Type 0} (same : A → A → Bool) (z : A) where
   hits_none [] = refl
   hits_none (p ∷ ps) = omega (arith, hits_none ps)
 
-  hits_past : (y : A) (ys : List A) (ps : List ℕ) → All (λ q. q ≢ 0) ps → hits same z (y ∷ ys) ps ≡ hits same z ys (downs ps)
+  hits_past : (y : A) (ys : List A) (ps : List ℕ) → AllByRecursion (λ q. q ≢ 0) ps → hits same z (y ∷ ys) ps ≡ hits same z ys (downs ps)
   hits_past y ys [] h = refl
   hits_past y ys (zero ∷ ps) h = absurd (h.0 refl)
   hits_past y ys (suc p ∷ ps) h = omega (arith, hits_past y ys ps h.1)
@@ -78,15 +78,15 @@ module _ {A : Type 0} where
   nth_last [] y = refl
   nth_last (x ∷ s) y = nth_last s y
 
-  nths_push : (s : List A) (y : A) (ps : List ℕ) → All (λ p. p < length s) ps → map (slice_get (s ++ (y ∷ []))) ps ≡ map (slice_get s) ps
+  nths_push : (s : List A) (y : A) (ps : List ℕ) → AllByRecursion (λ p. p < length s) ps → map (slice_get (s ++ (y ∷ []))) ps ≡ map (slice_get s) ps
   nths_push s y [] h = refl
   nths_push s y (p ∷ ps) h = ap₂ ◌∷◌ (nth_push s y p h.0) (nths_push s y ps h.1)
 
-distinct_push : (i : ℕ) (ps : List ℕ) → All (λ p. p < i) ps → Distinct ps → Distinct (ps ++ (i ∷ []))
+distinct_push : (i : ℕ) (ps : List ℕ) → AllByRecursion (λ p. p < i) ps → Distinct ps → Distinct (ps ++ (i ∷ []))
 distinct_push i [] b h = (tt, tt)
 distinct_push i (p ∷ ps) b h = (All-push (λ q. q ≢ p) ps i h.0 (omega (arith, b.0)), distinct_push i ps b.1 h.1)
 
-distinct_set : (i : ℕ) (ps : List ℕ) (k : ℕ) → All (λ p. p < i) ps → Distinct ps → Distinct (set ps k i)
+distinct_set : (i : ℕ) (ps : List ℕ) (k : ℕ) → AllByRecursion (λ p. p < i) ps → Distinct ps → Distinct (set ps k i)
 distinct_set i [] k b h = tt
 distinct_set i (p ∷ ps) zero b h = (All-weaker (λ q. q < i) (λ q. q ≢ i) (λ q l. omega arith) ps b.1, h.1)
 distinct_set i (p ∷ ps) (suc k) b h = (All-set (λ q. q ≢ p) ps k i (omega (arith, b.0)) h.0, distinct_set i ps k b.1 h.1)
@@ -94,11 +94,11 @@ distinct_set i (p ∷ ps) (suc k) b h = (All-set (λ q. q ≢ p) ps k i (omega (
 -- the elements of s stand in the arrivals seen so far, at distinct places
 pub record Sourced {A : Type 0} (seen s : List A) : Type 0 where
   pub places : List ℕ
-  pub below : All (λ p. p < length seen) places
+  pub below : AllByRecursion (λ p. p < length seen) places
   pub drawn : Drawn seen places s
 
 module _ {A : Type 0} (seen : List A) (x : A) where
-  more_below : (ps : List ℕ) → All (λ p. p < length seen) ps → All (λ p. p < length (seen ++ (x ∷ []))) ps
+  more_below : (ps : List ℕ) → AllByRecursion (λ p. p < length seen) ps → AllByRecursion (λ p. p < length (seen ++ (x ∷ []))) ps
   more_below ps h = All-weaker (λ p. p < length seen) (λ p. p < length (seen ++ (x ∷ []))) (λ p l. omega (arith, lib.ListN.length-append seen (x ∷ []))) ps h
 
   pub sourced_more : (s : List A) → Sourced seen s → Sourced (seen ++ (x ∷ [])) s

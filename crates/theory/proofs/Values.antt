@@ -1,6 +1,6 @@
 -- What the laws of an objective give. Assumes nothing.
 use Rattle.std.proofs.Common.{◌≡◌, ℕ, zero, suc, ◌+◌, ◌≤◌, Bool, List, [], ◌∷◌, ◌++◌, set, sum_by, arith}
-use Rattle.std.specs.List.{AllByRecursion as All}
+use Rattle.std.specs.List.{AllByRecursion}
 use Rattle.std.proofs.lemmas.List.Sums.{sum_by-cons}
 use Rattle.theory.specs.Bag.{Same, Within, Alike}
 use Rattle.theory.specs.Laws.{Submodular}
@@ -34,7 +34,7 @@ module _ {A : Type 0} {same : A → A → Bool} (eq : Same same) {f : List A →
       omega (arith, falls_append x left.0 s, worth_alike (left.0 ++ s) t left.1, worth_alike (x ∷ (left.0 ++ s)) (x ∷ t) (λ z. omega (arith, left.1 z)))
 
   -- frames that each add at most their number to a, together add at most the sum
-  pub worth-sum : (a : List A) (es : List (A × ℕ)) → All (λ e. f (e.0 ∷ a) ≤ f a + e.1) es → f (frames es ++ a) ≤ f a + sum_by (λ e. e.1) es
+  pub worth-sum : (a : List A) (es : List (A × ℕ)) → AllByRecursion (λ e. f (e.0 ∷ a) ≤ f a + e.1) es → f (frames es ++ a) ≤ f a + sum_by (λ e. e.1) es
   worth-sum a [] h = omega arith
   worth-sum a (e ∷ es) h = omega (arith, worth-sum a es h.1, h.0, sum_by-cons (λ (d : A × ℕ). d.1) e es, falls_within e.0 a (frames es ++ a) (λ z. omega (arith, count_append same z (frames es) a)))
 

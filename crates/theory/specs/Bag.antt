@@ -1,6 +1,6 @@
 -- Lists as bags: how often an element occurs, and lists of distinct places. Assumes nothing.
 use Rattle.std.specs.Prelude.{◌≡◌, ℕ, ◌+◌, ◌≤◌, Bool, true, cond, ◌≢◌, List, [], ◌∷◌, ◌++◌, map, length, Some}
-use Rattle.std.specs.List.{AllByRecursion as All, slice_get}
+use Rattle.std.specs.List.{AllByRecursion, slice_get}
 
 -- `same` tells equal elements from others
 pub record Same {A : Type 0} (same : A → A → Bool) : Type 0 where
@@ -26,7 +26,7 @@ Orderless {A} h = (p : List A) (x y : A) (s : List A) → h (p ++ (x ∷ y ∷ s
 
 abbrev pub Distinct : List ℕ → Type 0
 Distinct [] = Unit {0}
-Distinct (p ∷ ps) = All (λ q. q ≢ p) ps × Distinct ps
+Distinct (p ∷ ps) = AllByRecursion (λ q. q ≢ p) ps × Distinct ps
 
 -- at the places ps, which are distinct, the arrivals have the elements of s
 abbrev pub Drawn : {A : Type 0} → List A → List ℕ → List A → Type 0
