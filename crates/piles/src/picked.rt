@@ -9,6 +9,15 @@ use picker::picker::Picker;
 use report::counts::Counts;
 use std::test::Fail;
 
+const COUNTS: Counts = Counts {
+    size: 1,
+    kept: 1,
+    took: 2,
+    seen: 4,
+    gain: 513,
+    told: 520,
+};
+
 const DIGEST: &[u8] =
     b"size=1\nkept=1\ntook=2\nseen=4\ngain=513\ntold=520\nplace=0\nworth=513\nframe=1\nmarks=0000000000000001\nlook=0\nlane=0\ntail=1\nhead=2\nside=0\n";
 
@@ -63,15 +72,7 @@ fn picked_by_hand(rt: HostRuntime) -> Result<(), Fail> {
         picker.offer(joined(2, 1, 1, 4, 4, 0)),
         Ok(Outcome::Barred { gain: 125 })
     );
-    let counts = Counts {
-        size: 1,
-        kept: 1,
-        took: 2,
-        seen: 4,
-        gain: 513,
-        told: 520,
-    };
-    assert_eq!(rt; picker.counts(), counts);
+    assert_eq!(rt; picker.counts(), COUNTS);
     let mut sheet = [0; 256];
     assert_eq!(rt; picker.print(&mut sheet), Ok(DIGEST.len()));
     assert!(rt; &sheet[0..DIGEST.len()] == DIGEST);
