@@ -1,4 +1,4 @@
-/* The shift report picker for C: link libexports.a (`rt staticlib exports` writes it).
+/* The shift report picker for C: link libexports.a (`bindings/archive` writes it).
  *
  * A call carries out a whole run: it opens a picker of a size over an objective and a matroid with
  * their settings, carries out the calls in turn, and writes an answer to each. What the calls do is

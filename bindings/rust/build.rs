@@ -1,5 +1,5 @@
 //! Links `libexports.a`. `FOGETSU_LIB` names its folder; else it is `target/staticlib` of the
-//! repository, where `rt staticlib exports` writes it.
+//! repository, where `bindings/archive` writes it.
 
 use std::env;
 use std::path::{Path, PathBuf};
