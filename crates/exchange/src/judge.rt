@@ -79,7 +79,7 @@ pub fn judge<R: Matroid>(matroid: &R, size: Size, table: &KeptTable, x: Frame, g
     if gain == 0 {
         return Outcome::Empty;
     }
-    let all = rows::behind(x, table.entries());
+    let all = rows::behind(x, table);
     let row = &all[0..table.len() + 1];
     if has_room(matroid, size, table, x, row) {
         return Outcome::Kept {

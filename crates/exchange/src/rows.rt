@@ -1,9 +1,9 @@
 ghost use Rattle.std.specs.Prelude.{◌≡◌, ◌+◌, ◌-◌, ◌^◌, ◌<◌, ◌≤◌, ◌∷◌, length, take};
 ghost use Rattle.theory.specs.Replay.{frames};
-ghost use Rattle.kept.specs.Tables.{pairs};
+ghost use Rattle.kept.specs.Tables.{entries_of, held};
 
-use frames::entry::Entry;
 use frames::frame::Frame;
+use kept::table::KeptTable;
 
 // The set of the first `n` places.
 pub(crate) fn all(n: usize) -> u64
@@ -23,11 +23,11 @@ pub(crate) fn all_but(n: usize, p: usize) -> u64
 }
 
 // `x`, and the kept frames behind it.
-pub(crate) fn behind(x: Frame, entries: &[Entry]) -> [Frame; 49]
-    requires { length entries.now ≤ 48 }
+pub(crate) fn behind(x: Frame, table: &KeptTable) -> [Frame; 49]
     ensures full { length result ≡ 49 }
-    ensures front { take (length entries.now + 1) result ≡ x ∷ frames (pairs entries.now) }
+    ensures front { take (length (entries_of table.now) + 1) result ≡ x ∷ frames (held table.now) }
 {
+    let entries = table.entries();
     let mut row = [x; 49];
     for i in 0..entries.len() {
         row[i + 1] = entries[i].frame;

@@ -1,5 +1,5 @@
 ghost use Rattle.std.specs.Prelude.{◌≡◌, ℕ, ◌<◌, max, length, replicate, slice_index};
-ghost use Rattle.kinds.specs.Objectives.{likeness as likenessAt, facility, facility_above};
+ghost use Rattle.kinds.specs.Objectives.{likeness as likeness_at, facility, facility_above};
 ghost use Rattle.kinds.proofs.Located.{above_keeps};
 ghost use Rattle.kinds.proofs.Objectives.{facility_keeps};
 
@@ -64,7 +64,7 @@ impl<'a> Objective for FacilityLocation<'a> {
 // How like view v the frames of a look are.
 fn likeness(table: &[u16], look: u8, v: usize) -> u16
     requires { v < 64 }
-    ensures { result ≡ likenessAt table.now look v }
+    ensures { result ≡ likeness_at table.now look v }
 {
     let place = 64 * look as usize + v;
     if place < table.len() { table[place] } else { 0 }
@@ -73,7 +73,7 @@ fn likeness(table: &[u16], look: u8, v: usize) -> u16
 // Raises each view to the likeness of a look, if that is more.
 fn raise(best: &mut [u16], table: &[u16], look: u8)
     requires { length best.old ≡ 64 }
-    ensures { (v : ℕ) → v < 64 → slice_index best.new v ≡ max (slice_index best.old v) (likenessAt table.now look v) }
+    ensures { (v : ℕ) → v < 64 → slice_index best.new v ≡ max (slice_index best.old v) (likeness_at table.now look v) }
 {
     for v in 0..64 {
         best[v] = best[v].max(likeness(table, look, v));

@@ -80,11 +80,11 @@ module _ (steps : List ℕ) (l : ℕ) where
   }
 
 module _ {A : Type 0} (lane : A → ℕ) where
-  pub concave_keeps : (stepsAt : ℕ → List ℕ) → ((l : ℕ) → l < 64 → Steps (stepsAt l)) → Lawful (concave lane stepsAt)
+  pub concave_keeps : (steps_at : ℕ → List ℕ) → ((l : ℕ) → l < 64 → Steps (steps_at l)) → Lawful (concave lane steps_at)
   unfolding concave
-  concave_keeps stepsAt h = record {
-    submodular = below_lawful (of_lane lane stepsAt) 64 (λ l k. count_lawful (steps_concave (stepsAt l) (h l k)) (λ x. eqb (lane x) l));
-    bounded = below_small (of_lane lane stepsAt) 64 67108856 (omega arith) (λ l k s. steps_small (stepsAt l) (h l k) (count_by (λ x. eqb (lane x) l) s));
+  concave_keeps steps_at h = record {
+    submodular = below_lawful (of_lane lane steps_at) 64 (λ l k. count_lawful (steps_concave (steps_at l) (h l k)) (λ x. eqb (lane x) l));
+    bounded = below_small (of_lane lane steps_at) 64 67108856 (omega arith) (λ l k s. steps_small (steps_at l) (h l k) (count_by (λ x. eqb (lane x) l) s));
   }
 
   -- both meanings, whatever the counts
@@ -98,52 +98,52 @@ module _ {A : Type 0} (lane : A → ℕ) where
   pub left_none : (n : ℕ) (steps : List ℕ) (s : List A) → concave lane (steps_left (replicate n 0) steps) s ≡ concave lane (steps_of steps) s
   left_none n steps s = ap (λ f. concave lane f s) (fun_ext (λ l. ap (λ c. drop c (steps_of steps l)) (slice_index_zeros n l)))
 
-module _ {A : Type 0} (lane : A → ℕ) (stepsAt : ℕ → List ℕ) (x : A) where
+module _ {A : Type 0} (lane : A → ℕ) (steps_at : ℕ → List ℕ) (x : A) where
   first : ℕ → ℕ
-  first l = get_or (stepsAt l) 0 0
+  first l = get_or (steps_at l) 0 0
 
-  one_lane : (l : ℕ) → of_lane lane stepsAt l (x ∷ []) ≡ only first (lane x) l
+  one_lane : (l : ℕ) → of_lane lane steps_at l (x ∷ []) ≡ only first (lane x) l
   unfolding first
   one_lane l =
       ⊎_elim
-      (λ e. ap (λ c. sum (take c (stepsAt l))) (count_at (λ y. eqb (lane y) l) x [] true (eq-eqb (lane x) l e)) ∙ sum-take (stepsAt l) 0 ∙ zero-add (get_or (stepsAt l) 0 0) ∙ sym (only_here first (lane x) l e ∙ ap (λ k. get_or (stepsAt k) 0 0) e))
-      (λ e. ap (λ c. sum (take c (stepsAt l))) (count_at (λ y. eqb (lane y) l) x [] false (ne_eqb (lane x) l e)) ∙ sym (only_not first (lane x) l e))
+      (λ e. ap (λ c. sum (take c (steps_at l))) (count_at (λ y. eqb (lane y) l) x [] true (eq-eqb (lane x) l e)) ∙ sum-take (steps_at l) 0 ∙ zero-add (get_or (steps_at l) 0 0) ∙ sym (only_here first (lane x) l e ∙ ap (λ k. get_or (steps_at k) 0 0) e))
+      (λ e. ap (λ c. sum (take c (steps_at l))) (count_at (λ y. eqb (lane y) l) x [] false (ne_eqb (lane x) l e)) ∙ sym (only_not first (lane x) l e))
       (cases_eq (lane x) l)
 
-  one_sum : concave lane stepsAt (x ∷ []) ≡ sum_by (only first (lane x)) (range_with_len 0 64)
+  one_sum : concave lane steps_at (x ∷ []) ≡ sum_by (only first (lane x)) (range_with_len 0 64)
   unfolding concave
   one_sum = ap (λ f. sum_by f (range_with_len 0 64)) (fun_ext one_lane)
 
   -- a frame alone has the first step of its lane
-  pub concave_one : lane x < 64 → concave lane stepsAt (x ∷ []) ≡ get_or (stepsAt (lane x)) 0 0
+  pub concave_one : lane x < 64 → concave lane steps_at (x ∷ []) ≡ get_or (steps_at (lane x)) 0 0
   unfolding first
   concave_one l = one_sum ∙ sum_one first (lane x) 0 64 (omega arith) (omega arith)
 
   -- a frame of no lane has nothing
-  pub concave_outside : 64 ≤ lane x → concave lane stepsAt (x ∷ []) ≡ 0
+  pub concave_outside : 64 ≤ lane x → concave lane steps_at (x ∷ []) ≡ 0
   concave_outside l = one_sum ∙ sum_out first (lane x) 0 64 (inr l)
 
   -- once x is added the first step of its lane is gone
-  pub concave_added : (after : ℕ → List ℕ) (s : List A) → ((l : ℕ) → l < 64 → lane x ≡ l → after l ≡ drop 1 (stepsAt l)) → ((l : ℕ) → (lane x ≡ l → ⊥) → after l ≡ stepsAt l) → concave lane stepsAt (x ∷ s) ≡ concave lane after s + concave lane stepsAt (x ∷ [])
+  pub concave_added : (after : ℕ → List ℕ) (s : List A) → ((l : ℕ) → l < 64 → lane x ≡ l → after l ≡ drop 1 (steps_at l)) → ((l : ℕ) → (lane x ≡ l → ⊥) → after l ≡ steps_at l) → concave lane steps_at (x ∷ s) ≡ concave lane after s + concave lane steps_at (x ∷ [])
   unfolding concave
-  concave_added after s here other = adds_below (λ l. of_lane lane stepsAt l (x ∷ s)) (λ l. of_lane lane after l s) (λ l. of_lane lane stepsAt l (x ∷ [])) 64 each
+  concave_added after s here other = adds_below (λ l. of_lane lane steps_at l (x ∷ s)) (λ l. of_lane lane after l s) (λ l. of_lane lane steps_at l (x ∷ [])) 64 each
     where
       n : ℕ → ℕ
       n l = count_by (λ y. eqb (lane y) l) s
 
-      each : (l : ℕ) → l < 64 → of_lane lane stepsAt l (x ∷ s) ≡ of_lane lane after l s + of_lane lane stepsAt l (x ∷ [])
+      each : (l : ℕ) → l < 64 → of_lane lane steps_at l (x ∷ s) ≡ of_lane lane after l s + of_lane lane steps_at l (x ∷ [])
       each l k =
           ⊎_elim
           (λ e. omega (
             arith,
-            ap (λ c. sum (take c (stepsAt l))) (count_at (λ y. eqb (lane y) l) x s true (eq-eqb (lane x) l e)) ∙ sum_first (stepsAt l) (n l),
-            ap (λ c. sum (take c (stepsAt l))) (count_at (λ y. eqb (lane y) l) x [] true (eq-eqb (lane x) l e)) ∙ sum-take (stepsAt l) 0,
+            ap (λ c. sum (take c (steps_at l))) (count_at (λ y. eqb (lane y) l) x s true (eq-eqb (lane x) l e)) ∙ sum_first (steps_at l) (n l),
+            ap (λ c. sum (take c (steps_at l))) (count_at (λ y. eqb (lane y) l) x [] true (eq-eqb (lane x) l e)) ∙ sum-take (steps_at l) 0,
             ap (λ ys. sum (take (n l) ys)) (here l k e),
           ))
           (λ e. omega (
             arith,
-            ap (λ c. sum (take c (stepsAt l))) (count_at (λ y. eqb (lane y) l) x s false (ne_eqb (lane x) l e)),
-            ap (λ c. sum (take c (stepsAt l))) (count_at (λ y. eqb (lane y) l) x [] false (ne_eqb (lane x) l e)),
+            ap (λ c. sum (take c (steps_at l))) (count_at (λ y. eqb (lane y) l) x s false (ne_eqb (lane x) l e)),
+            ap (λ c. sum (take c (steps_at l))) (count_at (λ y. eqb (lane y) l) x [] false (ne_eqb (lane x) l e)),
             ap (λ ys. sum (take (n l) ys)) (other l e),
           ))
           (cases_eq (lane x) l)

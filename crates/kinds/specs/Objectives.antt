@@ -58,11 +58,11 @@ steps_left counts steps l = drop (slice_index counts l) (steps_of steps l)
 
 -- as many of the steps of lane l, from the first on, as there are frames of the lane
 abbrev pub of_lane : {A : Type 0} → (A → ℕ) → (ℕ → List ℕ) → ℕ → List A → ℕ
-of_lane lane stepsAt l s = sum (take (count_by (λ x. nat_eq (lane x) l) s) (stepsAt l))
+of_lane lane steps_at l s = sum (take (count_by (λ x. nat_eq (lane x) l) s) (steps_at l))
 
 -- the steps of all lanes
 unfoldable pub concave : {A : Type 0} → (A → ℕ) → (ℕ → List ℕ) → List A → ℕ
-concave lane stepsAt s = sum_by (λ l. of_lane lane stepsAt l s) (range_with_len 0 64)
+concave lane steps_at s = sum_by (λ l. of_lane lane steps_at l s) (range_with_len 0 64)
 
 -- numbers that never rise
 abbrev pub Falling : List ℕ → Type 0

@@ -1,6 +1,6 @@
 ghost use Rattle.std.specs.Prelude.{◌≡◌, ℕ, ◌+◌, ◌^◌, ◌<◌, length, nat_eq};
 ghost use Rattle.std.specs.List.{common_prefix_len};
-ghost use Rattle.spots.specs.Faults.{spot as spotAt};
+ghost use Rattle.spots.specs.Faults.{spot as spot_at};
 ghost use Rattle.records.specs.Format.{key_bytes};
 ghost use Rattle.records.specs.Reading.{due, key_amiss, end_amiss, line_fault_at, line_of};
 
@@ -11,7 +11,7 @@ use spots::fault::{LineFault, Spot};
 
 // A byte of the line where `key` is due.
 pub(crate) fn spot_of(key: Key, place: Place, byte: usize) -> Spot
-    ensures { result ≡ spotAt place.«record» (line_of key) byte }
+    ensures { result ≡ spot_at place.«record» (line_of key) byte }
 {
     Spot {
         record: place.record,
