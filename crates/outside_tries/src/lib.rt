@@ -32,14 +32,44 @@ mod tests {
             Call::Look(0),
             Call::Offer(x),
             Call::Offer(x),
-            Call::Print,
         ];
         let Ok(size) = Size::new(4) else {
             return Err(Fail::new("no size"));
         };
-        assert_eq!(rt; counted(size, 5, 3, &calls[0..7], &mut []), 3);
-        // the same, and the digest of it
+        assert_eq!(rt; counted(size, 5, 3, &calls, &mut []), 3);
+        Ok(())
+    }
+
+    // The same shift, and the digest of it.
+    #[test]
+    fn prints_since_the_clear(rt: HostRuntime) -> Result<(), Fail> {
+        let number = 7;
+        let side = 1;
+        let x = Frame {
+            number,
+            marks: 0,
+            look: 0,
+            lane: 3,
+            tail: 0,
+            head: 0,
+            side,
+        };
+        let record = b"frame=1\nmarks=0000000000000003\nlook=0\nlane=0\ntail=0\nhead=0\nside=0\n";
+        let (offer, text) = (Call::Offer(x), Call::Text(record));
+        let calls = [
+            offer,
+            Call::Clear,
+            offer,
+            text,
+            Call::Look(0),
+            offer,
+            offer,
+            Call::Print,
+        ];
         let mut sheet = [0; 512];
+        let Ok(size) = Size::new(4) else {
+            return Err(Fail::new("no size"));
+        };
         assert_eq!(rt; counted(size, 5, 3, &calls, &mut sheet), 3);
         assert!(rt; &sheet[0..DIGEST.len()] == DIGEST);
         Ok(())
