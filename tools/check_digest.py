@@ -1,4 +1,7 @@
-"""Compares the program `digest`, whose path is the argument, with a model written from docs/SPEC.md alone."""
+"""Compares the program `digest`, whose path is the argument, with a model written from docs/SPEC.md alone.
+
+`rt run` in crates/digest leaves the program at crates/digest/out/digest.
+"""
 import os, random, re, subprocess, sys, time
 from collections import Counter
 

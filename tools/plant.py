@@ -4,7 +4,8 @@ A bug is a block of lines in planted/CRATE.txt, a blank line between two: label 
 file of specs/), file, old, new; `at`, where the old text is meant that stands first behind that text; `same`, why
 behaviour does not differ. The must-fail edits of the crates are bugs too. A bug is checked in its own crate, and where
 that passes and behaviour differs in each crate above it, with its tests and its program, until one fails. What came of
-it is kept in planted/results.txt; a bug that stands there unchanged is not tried again.
+it is kept in planted/results.txt; a bug that stands there unchanged is not tried again. Each check begins with what
+`rt check` kept in the repository: check all crates there first, and run nothing else there meanwhile.
 """
 import argparse, hashlib, os, re, shlex, shutil, subprocess, sys, tempfile, time
 from collections import Counter
@@ -15,10 +16,13 @@ ROOT = os.path.dirname(HERE)
 LISTS = os.path.join(HERE, "planted")
 RESULTS = os.path.join(LISTS, "results.txt")
 # What a check says of a name that is gone, or of text that is none: it shows nothing of the contract.
-NAMES = re.compile(r"` is not in scope|can be named from here|has no (field|`)|no such|unknown name|parse error|unexpected|cannot find|since its body was refused|declarations? that depends? on")
-# What is run besides, once a program is checked.
-RUNS = {"digest": ["tools/check_digest.py", "target/bin/digest"]}
-FAULT = re.compile(r"^(?:note: )?(\S+?):(\d+):\d+: (error: .*|it is not proved .*)$")
+NAMES = re.compile(r"^error\[|` is not in scope|can be named from here|has no (field|`)|no such|is no name|operand is missing|expected the end|cannot continue|unexpected|cannot find|(was|were) not admitted")
+# What is run besides, once a program is checked: a script, and what it is given in the crate's folder.
+RUNS = {"digest": ["tools/check_digest.py", "out/digest"]}
+FAULT = re.compile(r"^(?:note: )?(?:\./)?(\S+?):(\d+):\d+: (error(?:\[[\w-]+\])?: .*|it is not proved .*)$")
+# A function whose open goals have no line of their own.
+OPEN = re.compile(r"^fn (\S+): (no proof: .*?`search` did not prove `([^`]+)`.*)$", re.M)
+GONE = re.compile(r"^(?:\./)?(proofs/\S+Answers\.antt):\d+:\d+: error: .*has no `([^`]+)` that can be named", re.M)
 
 
 @dataclass
@@ -67,7 +71,7 @@ def crates():
         for line in lines:
             name, colon, rest = line.partition("#")[0].partition(":")
             if colon:
-                deps[name.strip()] = rest.split()
+                deps[name.split()[0]] = rest.split()
     return deps
 
 
@@ -94,6 +98,9 @@ def results():
 
 
 def record(bug, verdict):
+    """Keeps a verdict, if there is one."""
+    if not verdict:
+        return
     found, named = results(), {other.name() for other in bugs()}
     found[bug.name()] = [bug.key(), *verdict]
     with open(RESULTS + ".new", "w", encoding="utf-8") as out:
@@ -118,31 +125,22 @@ def faults(log):
 
 
 def read_log(log, crate):
-    """The verdict of the last check: refused by a fact, or for a name, or caught by a run, or survived."""
+    """The verdict of the last check: refused by a fact, or for a name, or caught by a run, or survived; or that there is none."""
     if not crate:
         return ["survived", "", "", "", ""]
     found = faults(log)
-    errors = [fault for fault in found if fault[2].startswith("error: ")]
+    errors = [fault for fault in found if fault[2].startswith("error")]
     facts = [fault for fault in errors if not NAMES.search(fault[2])]
     for path, number, message in facts[:1] or errors[:1] or found[:1]:
-        path = path.partition("/crates/")[2] or path
         need = re.match(r"error: `([^`]+)`: |it is not proved .*?\(`([^`]+)`\)", message)
         verdict = "fact" if facts or not errors else "name"
         said = re.sub(r"\s+", " ", message.removeprefix("error: "))[:160]
-        return [verdict, crate, f"{path}:{number}", (need.group(1) or need.group(2)) if need else "", said]
+        return [verdict, crate, f"{crate}/{path}:{number}", (need.group(1) or need.group(2)) if need else "", said]
+    goal = OPEN.search(log)
+    if goal:
+        return ["fact", crate, goal.group(1), goal.group(3), goal.group(2)[:160]]
     said = [line for line in log.splitlines() if re.search(r"first difference|FAILED|differs|NOT|wrote|failed", line)]
-    return ["run", crate, "", "", " ".join(said[:1])[:160]]
-
-
-def step_renamed(log):
-    """Where the bug gave a step of the proof another name: the proof, the old name and the new one."""
-    gone = re.search(r"/crates/(\S+Answers\.antt):\d+:\d+: error: .*has no `([^`]+)` that can be named", log)
-    if gone:
-        stem = gone.group(2).rpartition("-")[0]
-        for new in re.findall(r"not proved that .*? \(`([^`]+)`\)", log):
-            if stem and new.startswith(stem) and new != gone.group(2):
-                return gone.group(1), gone.group(2), new
-    return "", "", ""
+    return ["run", crate, "", "", said[0][:160]] if said else []
 
 
 class Scratch:
@@ -150,23 +148,34 @@ class Scratch:
         self.folder, self.via = folder, shlex.split(via)
         self.logs = os.path.join(folder, "logs")
         os.makedirs(self.logs, exist_ok=True)
-        if not os.path.exists(os.path.join(folder, "target")):
-            self.fresh("target")
         self.fresh("crates")
         shutil.copy(os.path.join(ROOT, "crates.txt"), folder)
 
     def fresh(self, part):
-        there = os.path.join(self.folder, part)
-        shutil.rmtree(there, ignore_errors=True)
-        shutil.copytree(os.path.join(ROOT, part), there, symlinks=True)
+        """Takes a folder from the repository anew, with what checks kept there, where it has one."""
+        there, here = os.path.join(self.folder, part), os.path.join(ROOT, part)
+        if os.path.isdir(here):
+            shutil.rmtree(there, ignore_errors=True)
+            shutil.copytree(here, there, symlinks=True)
 
-    def ran(self, *words):
-        env = {**os.environ, "RT_JOBS": "1", "RT_CUT": "0"}
-        ran = subprocess.run([*self.via, *words], cwd=self.folder, env=env, stdout=subprocess.PIPE, stderr=subprocess.STDOUT)
-        return ran.returncode == 0, ran.stdout.decode(errors="replace")
+    def at(self, *names):
+        return os.path.join(self.folder, "crates", *names)
 
-    def rt(self, *words):
-        return self.ran("rt", *words)
+    def bytes_of(self, *names):
+        path = self.at(*names)
+        if not os.path.isfile(path):
+            return b""
+        with open(path, "rb") as file:
+            return file.read()
+
+    def ran(self, crate, *words, given=b""):
+        """Runs a command in a crate's folder: whether all was well, what it wrote, and all that was said."""
+        ran = subprocess.run([*self.via, *words], cwd=self.at(crate), input=given, stdout=subprocess.PIPE, stderr=subprocess.PIPE)
+        return ran.returncode == 0, ran.stdout, (ran.stdout + ran.stderr).decode(errors="replace")
+
+    def rt(self, crate, verb):
+        passed, _, log = self.ran(crate, "rt", verb, "--jobs", "1")
+        return passed, log
 
     def log(self, bug):
         return os.path.join(self.logs, bug.name().replace("/", "."))
@@ -178,7 +187,7 @@ class Scratch:
         try:
             crate, log = self.checked(bug)
             for _ in range(2):
-                proof, old, new = step_renamed(log)
+                proof, old, new = self.step_renamed(crate, log)
                 if not old:
                     break
                 self.write(before, proof, lambda text: re.sub(rf"(?<![\w-]){re.escape(old)}(?![\w-])", new, text))
@@ -192,30 +201,62 @@ class Scratch:
         return read_log(log, crate)
 
     def write(self, before, name, change):
-        path = os.path.join(self.folder, "crates", name)
+        path = self.at(name)
         with open(path, encoding="utf-8") as file:
             text = file.read()
         before.setdefault(path, text)
         with open(path, "w", encoding="utf-8") as file:
             file.write(change(text))
 
+    def step_renamed(self, crate, log):
+        """Where the bug gave a step of a proof another name: the proof, the old name, and a new one that is not answered yet."""
+        gone = GONE.search(log)
+        if gone:
+            proof, old = f"{crate}/{gone.group(1)}", gone.group(2)
+            stem, answers = old.rpartition("-")[0], self.bytes_of(proof).decode()
+            asked = re.search(rf"`Goals` has no `{re.escape(old)}`; rattle asks for ([^;\n]*)", log)
+            for new in re.findall(r"`([^`]+)`", asked.group(1)) if stem and asked else []:
+                if new.startswith(stem) and not re.search(rf"\bgoal\.{re.escape(new)}(?![\w-])", answers):
+                    return proof, old, new
+        return "", "", ""
+
     def checked(self, bug):
-        passed, log = self.rt("dev", bug.crate)
-        if not passed or bug.same:
-            return "" if passed else bug.crate, log
         deps, reached = crates(), {bug.crate}
         try:
+            passed, log = self.rt(bug.crate, "check")
+            if not passed or bug.same:
+                return "" if passed else bug.crate, log
             for crate in deps:
                 if crate == bug.crate or reached & set(deps[crate]):
                     reached.add(crate)
-                    passed, log = self.rt("check", crate)
-                    if passed and crate in RUNS:
-                        passed, log = self.ran(sys.executable, os.path.join(ROOT, RUNS[crate][0]), *RUNS[crate][1:])
+                    passed, log = (True, "") if crate == bug.crate else self.rt(crate, "check")
+                    if passed:
+                        passed, log = self.runs(crate)
                     if not passed:
                         return crate, log
         finally:
-            self.fresh("target")
+            for crate in reached:
+                self.fresh(os.path.join("crates", crate, "out"))
         return "", log
+
+    def runs(self, crate):
+        """Runs a proved crate's tests and its program: whether all is well, and what was said last."""
+        passed, log = self.rt(crate, "test") if self.has_tests(crate) else (True, "")
+        if passed and os.path.exists(self.at(crate, "src", "main.rt")):
+            passed, log = self.program(crate)
+        return passed, log
+
+    def has_tests(self, crate):
+        return any(b"#[test]" in self.bytes_of(crate, "src", name) for name in os.listdir(self.at(crate, "src")))
+
+    def program(self, crate):
+        """Builds a program, and holds it to its stored output, and to what is run besides."""
+        passed, wrote, log = self.ran(crate, "rt", "run", "--jobs", "1", given=self.bytes_of(crate, "stdin"))
+        if not passed or wrote != self.bytes_of(crate, "stdout"):
+            return False, "what the program wrote, or its status, differs from what is stored\n" + log
+        if crate in RUNS:
+            passed, _, log = self.ran(crate, sys.executable, os.path.join(ROOT, RUNS[crate][0]), *RUNS[crate][1:])
+        return passed, log
 
 
 def wanted(words, edited):
@@ -281,7 +322,8 @@ def main():
         elif not asked.reread and (asked.again or not known):
             verdict = scratch.tried(bug)
             record(bug, verdict)
-            print(f"{time.strftime('%H:%M:%S')} {time.time() - start:4.0f} s  {bug.name()}: {' | '.join(verdict)}", flush=True)
+            said = " | ".join(verdict) or f"no verdict: {scratch.log(bug)}"
+            print(f"{time.strftime('%H:%M:%S')} {time.time() - start:4.0f} s  {bug.name()}: {said}", flush=True)
 
 
 if __name__ == "__main__":
