@@ -22,7 +22,7 @@ RUNS = {"digest": ["tools/check_digest.py", "out/digest"]}
 FAULT = re.compile(r"^(?:note: )?(?:\./)?(\S+?):(\d+):\d+: (error(?:\[[\w-]+\])?: .*|it is not proved .*)$")
 # A function whose open goals have no line of their own.
 OPEN = re.compile(r"^fn (\S+): (no proof: .*?`search` did not prove `([^`]+)`.*)$", re.M)
-GONE = re.compile(r"^(?:\./)?(proofs/\S+Answers\.antt):\d+:\d+: error: .*has no `([^`]+)` that can be named", re.M)
+GONE = re.compile(r"^(?:\./)?(proofs/\S+Answers\.antt):\d+:\d+: error: (?:.*\n  )?.*has no `([^`]+)` that can be named", re.M)
 
 
 @dataclass
