@@ -1,12 +1,12 @@
 // Each fault in each line of a record, with the record, the line and the byte that it names.
 use crate::play::{RECORD, front, opened, seen_of};
-use spots::fault::Spot;
+use spots::fault::{Fault, Spot};
 use std::alloc::Global;
 use std::process::Abort;
 use std::test::Fail;
 
 // A damaged line, which stands behind a whole record and the whole lines of a second one that start before `start`, and
-// the refusal's number and the byte that are due.
+// the refusal's number, as users are told it, and the byte that are due.
 #[derive(Clone, Copy)]
 struct Row {
     line: usize,

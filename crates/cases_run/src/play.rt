@@ -23,23 +23,15 @@ pub(crate) fn shot(marks: u64, lane: u8) -> Frame {
     Frame {
         number: 1,
         marks,
-        look: 0,
         lane,
-        tail: 0,
-        head: 0,
-        side: 0,
+        ..Frame::default()
     }
 }
 
 // Size 2, the weights 1 to 6 for the first classes, and one frame for each lane.
 pub(crate) fn opened() -> Result<Picker<Coverage, PartitionMatroid>, Fail> {
     let mut weights = [0; 64];
-    weights[0] = 1;
-    weights[1] = 2;
-    weights[2] = 3;
-    weights[3] = 4;
-    weights[4] = 5;
-    weights[5] = 6;
+    weights[..6].copy_from_slice(&[1, 2, 3, 4, 5, 6]);
     let size = Size::new(2)?;
     Ok(Picker::open(
         size,
@@ -50,7 +42,7 @@ pub(crate) fn opened() -> Result<Picker<Coverage, PartitionMatroid>, Fail> {
 
 // The first n bytes.
 pub(crate) fn front(s: &[u8], n: usize) -> &[u8] {
-    if n <= s.len() { &s[0..n] } else { s }
+    &s[..n.min(s.len())]
 }
 
 // All that is seen of a picker: its counts and its kept frames with their gains, as they are printed.

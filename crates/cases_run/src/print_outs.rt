@@ -1,11 +1,6 @@
 // Print-outs into buffers one byte short, exact and larger.
 use crate::play::{RECORD, front, opened, shot};
-use faults::fault::TextFault;
-use frames::frame::Frame;
 use frames::refusal::Refusal;
-use matroids::partition::PartitionMatroid;
-use objectives::coverage::Coverage;
-use picker::picker::Picker;
 use report::print::{print_fault, print_record};
 use std::process::Abort;
 use std::test::*;
@@ -19,52 +14,21 @@ const DIGEST: &[u8] =
 
 const FAULT: &[u8] = b"fault=6\nrecord=3\nline=2\nbyte=150\n";
 
-type Shift = Picker<Coverage, PartitionMatroid>;
-
-#[derive(Clone, Copy)]
-enum PrintOut {
-    Digest,
-    Record(Frame),
-    Fault(TextFault),
-}
-
-fn print(shift: &Shift, what: PrintOut, out: &mut [u8]) -> Result<usize, Refusal> {
-    match what {
-        PrintOut::Digest => shift.print(out),
-        PrintOut::Record(x) => print_record(&x, out),
-        PrintOut::Fault(fault) => print_fault(&fault, out),
-    }
-}
-
 // The sheet begins with the text, and each byte behind it is a dot.
 fn holds(sheet: &[u8], text: &[u8]) -> bool {
-    if sheet.len() < text.len() {
-        return false;
-    }
-    for b in &sheet[text.len()..] {
-        if *b != b'.' {
-            return false;
-        }
-    }
-    &sheet[0..text.len()] == text
-}
-
-// Prints into the first `room` bytes.
-fn print_within(
-    shift: &Shift,
-    what: PrintOut,
-    sheet: &mut [u8],
-    room: usize,
-) -> Result<usize, Refusal> {
-    if room <= sheet.len() {
-        print(shift, what, &mut sheet[0..room])
-    } else {
-        print(shift, what, sheet)
-    }
+    sheet
+        .strip_prefix(text)
+        .is_some_and(|behind| behind.iter().all(|b| *b == b'.'))
 }
 
 // The room, the answer, and how many bytes are written.
-fn prints(rt: &impl Abort, shift: &Shift, what: PrintOut, text: &[u8]) -> Result<(), Fail> {
+fn prints<F: Fn(&mut [u8]) -> Result<usize, Refusal> + Drop>(
+    rt: &impl Abort,
+    print: F,
+    text: &[u8],
+) -> Result<(), Fail>
+    requires { F.IsAlwaysCallable print }
+{
     let n = text.len();
     assert!(rt; n > 0);
     let cases = [
@@ -74,7 +38,8 @@ fn prints(rt: &impl Abort, shift: &Shift, what: PrintOut, text: &[u8]) -> Result
     ];
     for (room, answer, written) in cases {
         let mut sheet = [b'.'; 512];
-        assert_eq!(rt; print_within(shift, what, &mut sheet, room), answer);
+        let end = room.min(sheet.len());
+        assert_eq!(rt; print(&mut sheet[..end]), answer);
         assert!(rt; holds(&sheet, front(text, written)));
     }
     Ok(())
@@ -87,7 +52,7 @@ fn print_outs_at_three_lengths(rt: HostRuntime) -> Result<(), Fail> {
     let Err(fault) = shift.offer_text(TEXT) else {
         return Err(Fail::new("no fault"));
     };
-    prints(&rt, &shift, PrintOut::Digest, DIGEST)?;
-    prints(&rt, &shift, PrintOut::Record(shot(3, 0)), RECORD)?;
-    prints(&rt, &shift, PrintOut::Fault(fault), FAULT)
+    prints(&rt, |out| shift.print(out), DIGEST)?;
+    prints(&rt, |out| print_record(&shot(3, 0), out), RECORD)?;
+    prints(&rt, |out| print_fault(&fault, out), FAULT)
 }

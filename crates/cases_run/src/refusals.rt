@@ -18,11 +18,7 @@ fn sizes_from_1_to_48(rt: HostRuntime) -> Result<(), Fail> {
         (usize::MAX, Err(Refusal::BadSize)),
     ];
     for (n, answer) in answers {
-        let got = match Size::new(n) {
-            Ok(size) => Ok(size.get()),
-            Err(refusal) => Err(refusal),
-        };
-        assert_eq!(rt; got, answer);
+        assert_eq!(rt; Size::new(n).map(|size| size.get()), answer);
     }
     Ok(())
 }

@@ -36,8 +36,7 @@ fn weights(rt: HostRuntime) -> Result<(), Fail> {
 #[test]
 fn steps(rt: HostRuntime) -> Result<(), Fail> {
     let mut steps = [0; 512];
-    steps[8] = 5;
-    steps[9] = 3;
+    steps[8..10].copy_from_slice(&[5, 3]);
     let mut counts = ConcaveCounts::new(&steps)?;
     counts.add(&shot(0, 1));
     assert_eq!(rt; counts.set(&steps[0..511]), refused(Refusal::Miscount, 0));

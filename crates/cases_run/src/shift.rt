@@ -19,7 +19,7 @@ fn blanks(
     picker: &mut Picker<Coverage, PartitionMatroid>,
     n: u32,
 ) -> Result<(), Fail> {
-    for _i in 0..n {
+    for _ in 0..n {
         assert_eq!(rt; picker.offer(shot(0, 0)), Ok(Outcome::Empty));
     }
     Ok(())

@@ -20,9 +20,7 @@ fn offered_twice(rt: HostRuntime) -> Result<(), Fail> {
     play(&rt, &mut covered, &under_coverage)?;
     // it is one frame more on its lane, and gains the next step
     let mut steps = [0; 512];
-    steps[0] = 5;
-    steps[1] = 3;
-    steps[2] = 3;
+    steps[..3].copy_from_slice(&[5, 3, 3]);
     let size = Size::new(2)?;
     let matroid = PartitionMatroid::new(&[48; 64])?;
     let mut counted = Picker::open(size, ConcaveCounts::new(&steps)?, matroid);

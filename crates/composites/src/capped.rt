@@ -3,7 +3,6 @@ ghost use Rattle.kinds.specs.Objectives.{capped};
 ghost use Rattle.kinds.proofs.Told.{capped_keeps};
 ghost use Rattle.objectives.specs.Meanings.{Reset};
 
-use crate::room::within;
 use frames::frame::Frame;
 use objectives::objective::Objective;
 
@@ -49,7 +48,7 @@ impl<W: Objective> Objective for Capped<W> {
     ghost laws = { λ c. record { whole = capped_keeps c.cap (W.Objective.laws c.below).whole; left = capped_keeps c.room (W.Objective.laws c.below).left } };
 
     fn gain(&self, x: &Frame) -> u32 {
-        within(self.room, self.below.gain(x) as u64)
+        self.below.gain(x).min(self.room)
     }
 
     fn add(&mut self, x: &Frame) {

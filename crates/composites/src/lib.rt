@@ -1,5 +1,4 @@
 #![tactic(auto)]
 
 pub mod capped;
-mod room;
 pub mod sum;

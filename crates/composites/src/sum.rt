@@ -4,11 +4,10 @@ ghost use Rattle.kinds.specs.Objectives.{joint};
 ghost use Rattle.kinds.proofs.Told.{joint_keeps};
 ghost use Rattle.objectives.specs.Meanings.{Reset};
 
-use crate::room::within;
 use frames::frame::Frame;
 use objectives::objective::Objective;
 
-const HIGHEST_VALUE: u32 = 4_294_967_295;
+const HIGHEST_VALUE: u32 = u32::MAX;
 
 // The sum of two objectives: the value of a list of frames is what it is worth to both, and never above 4,294,967,295.
 #[derive(Drop)]
@@ -45,10 +44,8 @@ impl<V: Objective, W: Objective> Objective for Sum<V, W> {
     ghost laws = { λ c. record { whole = joint_keeps 4294967295 (lit≤ tt) (V.Objective.laws c.first).whole (W.Objective.laws c.second).whole; left = joint_keeps c.room c.limit (V.Objective.laws c.first).left (W.Objective.laws c.second).left } };
 
     fn gain(&self, x: &Frame) -> u32 {
-        within(
-            self.room,
-            self.first.gain(x) as u64 + self.second.gain(x) as u64,
-        )
+        let gain = self.first.gain(x).saturating_add(self.second.gain(x));
+        gain.min(self.room)
     }
 
     fn add(&mut self, x: &Frame) {

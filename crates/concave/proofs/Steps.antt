@@ -5,6 +5,8 @@ use Rattle.std.proofs.lemmas.Bool.{or_cases, or_left, or_right, or_from, leb-tru
 use Rattle.frames.specs.declared.refusal.Refusal.{Refusal}
 use Rattle.frames.specs.declared.refusal.Refusal.TheVariants.{Over, Miscount, Rising}
 use Rattle.frames.specs.declared.setting.SettingFault.{SettingFault}
+use Rattle.frames.specs.Settings.{count_fault}
+use Rattle.frames.proofs.Settings.{miscounted}
 use Rattle.concave.specs.Steps.{first_wrong, steps_fault}
 
 abbrev wrong : Refusal → ℕ → Option SettingFault
@@ -38,9 +40,9 @@ module _ (highest : ℕ) where
   steps_accepted ns e = (all_low 0 0 ns e, λ l j k. let same : suc (8 * l + j) ≡ 8 * l + j + 1 = omega arith in omega (arith, ap (λ i. get_or ns i 0) same, all_falling 0 0 ns e (suc (8 * l + j)) (λ h. omega arith)))
 
   -- a list of another length
-  pub steps_miscount : (count : ℕ) (ns : List ℕ) → (length ns ≡ count → ⊥) → wrong Miscount 0 ≡ steps_fault count highest ns
+  pub steps_miscounted : (count : ℕ) (ns : List ℕ) (e : SettingFault) → Some e ≡ count_fault count ns → Some e ≡ steps_fault count highest ns
   unfolding steps_fault
-  steps_miscount count ns h = sym (cond-false (eqb (length ns) count) (first_wrong highest 0 0 ns) (wrong Miscount 0) (ne_eqb (length ns) count h))
+  steps_miscounted count ns e h = miscounted count ns e (first_wrong highest 0 0 ns) h
 
   -- a list of the right length is looked through from its start
   pub steps_counted : (count : ℕ) (ns : List ℕ) → length ns ≡ count → first_wrong highest 0 0 ns ≡ steps_fault count highest ns

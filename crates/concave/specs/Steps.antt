@@ -1,5 +1,5 @@
 -- Which tables of steps are refused, and why. Assumes nothing.
-use Rattle.std.specs.Prelude.{ℕ, ◌+◌, ◌%◌, cond, ◌||◌, List, [], ◌∷◌, length, Some, None, Option, ◌==◌, nat_le}
+use Rattle.std.specs.Prelude.{ℕ, ◌+◌, ◌%◌, ◌||◌, List, [], ◌∷◌, length, Some, None, Option, if◌then◌else◌, ◌==◌, nat_le}
 use Rattle.frames.specs.declared.refusal.Refusal.TheVariants.{Over, Miscount, Rising}
 use Rattle.frames.specs.declared.setting.SettingFault.{SettingFault}
 
@@ -8,8 +8,10 @@ use Rattle.frames.specs.declared.setting.SettingFault.{SettingFault}
 abbrev pub first_wrong : ℕ → ℕ → ℕ → List ℕ → Option SettingFault
 first_wrong highest i p [] = None
 first_wrong highest i p (n ∷ ns) =
-    cond (nat_le n highest) (cond (i % 8 == 0 || nat_le n p) (first_wrong highest (i + 1) n ns) (Some (record { refusal = Rising; index = i }))) (Some (record { refusal = Over; index = i }))
+    if nat_le n highest
+    then (if i % 8 == 0 || nat_le n p then first_wrong highest (i + 1) n ns else Some (record { refusal = Rising; index = i }))
+    else Some (record { refusal = Over; index = i })
 
 -- what is wrong with a list that should have `count` steps: its length comes first
 unfoldable pub steps_fault : ℕ → ℕ → List ℕ → Option SettingFault
-steps_fault count highest ns = cond (length ns == count) (first_wrong highest 0 0 ns) (Some (record { refusal = Miscount; index = 0 }))
+steps_fault count highest ns = if length ns == count then first_wrong highest 0 0 ns else Some (record { refusal = Miscount; index = 0 })

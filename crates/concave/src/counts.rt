@@ -13,7 +13,7 @@ use objectives::objective::Objective;
 // where c is how many frames of the list are on that lane, 8 at most. A lane above 63 adds nothing.
 #[derive(Drop)]
 pub struct ConcaveCounts {
-    // step n of lane l stands at 8 · l + n
+    // as in the settings: step n of lane l stands at 8 · l + n
     steps: [u32; 512],
     // how many frames of each lane were added since the last reset, 8 at most
     counts: [u8; 64],
@@ -58,14 +58,10 @@ impl Objective for ConcaveCounts {
 
     fn gain(&self, x: &Frame) -> u32 {
         let lane = x.lane as usize;
-        if lane >= 64 {
-            return 0;
+        match self.counts.get(lane) {
+            Some(count) if *count < 8 => self.steps[8 * lane + *count as usize],
+            _ => 0,
         }
-        let count = self.counts[lane] as usize;
-        if count >= 8 {
-            return 0;
-        }
-        self.steps[8 * lane + count]
     }
 
     fn add(&mut self, x: &Frame) {
@@ -76,7 +72,6 @@ impl Objective for ConcaveCounts {
     }
 
     fn reset(&mut self) {
-        let none = [0; 64];
-        self.counts = none;
+        self.counts = [0; 64];
     }
 }

@@ -3,7 +3,7 @@ ghost use Rattle.std.specs.Result.{result_err};
 ghost use Rattle.concave.specs.Steps.{steps_fault};
 
 use frames::refusal::Refusal;
-use frames::setting::SettingFault;
+use frames::setting::{SettingFault, check_count};
 
 const HIGHEST_STEP: u32 = 8_388_607;
 
@@ -14,12 +14,7 @@ pub(crate) fn check_steps(steps: &[u32]) -> Result<(), SettingFault>
     ensures fault { result_err result ≡ steps_fault 512 8388607 steps.now }
     ensures accepted { OnOk result ((length steps.now ≡ 512) × ((i : ℕ) → slice_index steps.now i ≤ 8388607) × ((l j : ℕ) → j < 7 → slice_index steps.now (8 * l + j + 1) ≤ slice_index steps.now (8 * l + j))) }
 {
-    if steps.len() != 512 {
-        return Err(SettingFault {
-            refusal: Refusal::Miscount,
-            index: 0,
-        });
-    }
+    check_count(steps, 512)?;
     let mut before = 0;
     for (i, step) in steps.iter().enumerate() {
         if *step > HIGHEST_STEP {

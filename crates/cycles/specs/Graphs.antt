@@ -1,10 +1,10 @@
 -- Frames that join two stations, and which bags of them are independent. Assumes nothing.
-use Rattle.std.specs.Prelude.{◌≡◌, ℕ, ◌+◌, ◌%◌, Bool, true, false, cond, not, ◌&&◌, ◌||◌, ◌≢◌, List, [], ◌∷◌, ◌==◌}
+use Rattle.std.specs.Prelude.{◌≡◌, ℕ, ◌+◌, ◌%◌, Bool, true, false, if◌then◌else◌, not, ◌&&◌, ◌||◌, ◌≢◌, List, [], ◌∷◌, ◌==◌}
 
 -- how often the frames of s touch the station c; one whose tail and head are both c touches it twice
 abbrev pub touches : {A : Type 0} → (A → ℕ) → (A → ℕ) → ℕ → List A → ℕ
 touches tail head c [] = 0
-touches tail head c (x ∷ s) = cond (tail x == c) 1 0 + cond (head x == c) 1 0 + touches tail head c s
+touches tail head c (x ∷ s) = (if tail x == c then 1 else 0) + (if head x == c then 1 else 0) + touches tail head c s
 
 -- s touches the station c an even number of times
 abbrev pub even_at : {A : Type 0} → (A → ℕ) → (A → ℕ) → List A → ℕ → Bool
@@ -37,7 +37,7 @@ graphic tail head s = every_part (λ t. is_empty t || not (even tail head t)) s
 abbrev pub part : {A : Type 0} → List Bool → List A → List A
 part [] s = []
 part (b ∷ m) [] = []
-part (b ∷ m) (x ∷ s) = cond b (x ∷ part m s) (part m s)
+part (b ∷ m) (x ∷ s) = if b then x ∷ part m s else part m s
 
 abbrev pub EvenlyTouched : {A : Type 0} → (A → ℕ) → (A → ℕ) → List A → Type 0
 EvenlyTouched tail head s = (c : ℕ) → touches tail head c s % 2 ≡ 0

@@ -1,15 +1,15 @@
 -- Labels of stations, which tell independent bags from others. Assumes nothing.
-use Rattle.std.specs.Prelude.{ℕ, Bool, true, false, cond, List, [], ◌∷◌, ◌==◌, slice_index_or}
+use Rattle.std.specs.Prelude.{ℕ, Bool, true, false, if◌then◌else◌, List, [], ◌∷◌, ◌==◌, slice_index_or}
 
 -- the label b becomes a
 abbrev pub merged : ℕ → ℕ → ℕ → ℕ
-merged a b l = cond (l == b) a l
+merged a b l = if l == b then a else l
 
 -- the frames are taken in turn: no at one whose ends have equal labels, and else each label that is the head's becomes
 -- the tail's
 abbrev pub joins : {A : Type 0} → (A → ℕ) → (A → ℕ) → (ℕ → ℕ) → List A → Bool
 joins tail head label [] = true
-joins tail head label (x ∷ s) = cond (label (tail x) == label (head x)) false (joins tail head (λ w. merged (label (tail x)) (label (head x)) (label w)) s)
+joins tail head label (x ∷ s) = if label (tail x) == label (head x) then false else joins tail head (λ w. merged (label (tail x)) (label (head x)) (label w)) s
 
 -- the same with the labels in a list, by station; a station past its end has itself for a label
 unfoldable pub joins_by : {A : Type 0} → (A → ℕ) → (A → ℕ) → List ℕ → List A → Bool

@@ -21,7 +21,7 @@ use runs::ran::Ran;
 use runs::run::run;
 use std::io::{Read, Write};
 
-// Class i has the weight i + 1.
+// Class i has the weight i + 1. A constant is written out, since no function computes one.
 const WEIGHTS: [u32; 64] = [
     1, 2, 3, 4, 5, 6, 7, 8, 9, 10, 11, 12, 13, 14, 15, 16, 17, 18, 19, 20, 21, 22, 23, 24, 25, 26,
     27, 28, 29, 30, 31, 32, 33, 34, 35, 36, 37, 38, 39, 40, 41, 42, 43, 44, 45, 46, 47, 48, 49, 50,
@@ -36,44 +36,29 @@ fn shift(text: &[u8], sheet: &mut [u8]) -> Result<Ran<Coverage, PartitionMatroid
     ensures sheet { sheet.new ≡ sheet.old }
 {
     let size = Size::new(2)?;
-    let objective = match Coverage::new(&WEIGHTS) {
-        Ok(objective) => objective,
-        Err(fault) => return Err(fault.refusal),
-    };
-    let matroid = match PartitionMatroid::new(&CAPS) {
-        Ok(matroid) => matroid,
-        Err(fault) => return Err(fault.refusal),
-    };
+    let objective = Coverage::new(&WEIGHTS)?;
+    let matroid = PartitionMatroid::new(&CAPS)?;
     Ok(run(size, objective, matroid, &[Call::Text(text)], sheet))
 }
 
 fn printed(length: Result<usize, Refusal>) -> anyhow::Result<usize>
     ensures { result_ok result ≡ result_ok length }
 {
-    match length {
-        Ok(n) => Ok(n),
-        Err(_) => Err(anyhow!("the sheet is too short")),
-    }
+    length.map_err(|_| anyhow!("the sheet is too short"))
 }
 
 // The first n bytes.
 fn front(sheet: &[u8], n: usize) -> &[u8]
     ensures { result.now ≡ take n sheet.now }
 {
-    if n <= sheet.len() {
-        &sheet[0..n]
-    } else {
-        sheet
-    }
+    &sheet[..n.min(sheet.len())]
 }
 
 fn main(rt: HostRuntime) -> anyhow::Result<()> {
     let mut text = Vec::new(rt.alloc());
     rt.stdin().take(65_537).read_to_end(&mut text)?;
     let mut sheet = [0; 512];
-    let Ok(ran) = shift(text.as_slice(), &mut sheet) else {
-        return Err(anyhow!("the settings are refused"));
-    };
+    let ran = shift(text.as_slice(), &mut sheet).map_err(|_| anyhow!("the settings are refused"))?;
     if let Some(Answer::Texted(Err(fault))) = ran.answer {
         let n = printed(print_fault(&fault, &mut sheet))?;
         rt.stdout().write_all(front(&sheet, n))?;

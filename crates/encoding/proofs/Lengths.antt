@@ -1,22 +1,39 @@
 -- How many bytes an answer has. Assumes nothing.
-use Rattle.std.proofs.Common.{◌≡◌, ℕ, Bool, List, length, Some, None, Option, refl, arith}
+use Rattle.std.proofs.Common.{◌≡◌, ℕ, Bool, List, length, Ok, Err, Result, refl}
+use Rattle.exchange.specs.declared.outcome.Outcome.{Outcome}
+use Rattle.exchange.specs.declared.outcome.Outcome.TheVariants.{Empty, Kept, Swapped, Light, Barred}
+use Rattle.faults.specs.declared.fault.TextFault.{TextFault}
+use Rattle.frames.specs.declared.entry.Entry.{Entry}
 use Rattle.frames.specs.declared.frame.Frame.{Frame}
+use Rattle.frames.specs.declared.refusal.Refusal.{Refusal}
 use Rattle.picker.specs.Calls.{Called, offering, reading, looking, counting, printing, clearing}
 use Rattle.runs.specs.Runs.{answer_after}
 use Rattle.runs.specs.declared.call.Answer.{Answer}
 use Rattle.runs.specs.declared.call.Answer.TheVariants.{Offered, Texted, Looked, Counted, Printed, Cleared}
-use Rattle.encoding.specs.Answers.{answer_bytes, fixed_of, frame_or, looked_bytes, looked_of, said_bytes, said_of}
-use Rattle.encoding.specs.declared.said.Said.{Said}
+use Rattle.encoding.specs.Answers.{answer_bytes, fixed_of, offered_bytes, outcome_bytes, texted_bytes, looked_bytes, printed_bytes}
 
-frame_long : (o : Option Frame) → length (frame_or o) ≡ 17
-frame_long None = refl
-frame_long (Some x) = refl
+outcome_long : (o : Outcome) → length (outcome_bytes o) ≡ 28
+outcome_long Empty = refl
+outcome_long (Kept p g) = refl
+outcome_long (Swapped p g x) = refl
+outcome_long (Light p g l) = refl
+outcome_long (Barred g) = refl
 
-said_long : (s : Said) → length (said_bytes s) ≡ 28
-said_long s = omega (arith, frame_long s.left)
+offered_long : (r : Result Outcome Refusal) → length (offered_bytes r) ≡ 28
+offered_long (Ok o) = outcome_long o
+offered_long (Err e) = refl
 
-looked_long : (t : ℕ × ℕ × Option Frame) → length (looked_bytes t) ≡ 22
-looked_long t = omega (arith, frame_long t.2)
+texted_long : (r : Result ℕ TextFault) → length (texted_bytes r) ≡ 14
+texted_long (Ok n) = refl
+texted_long (Err f) = refl
+
+looked_long : (r : Result Entry Refusal) → length (looked_bytes r) ≡ 22
+looked_long (Ok e) = refl
+looked_long (Err e) = refl
+
+printed_long : (r : Result ℕ Refusal) → length (printed_bytes r) ≡ 5
+printed_long (Ok n) = refl
+printed_long (Err e) = refl
 
 abbrev answer_length : Answer → ℕ
 answer_length (Offered r) = 28
@@ -28,11 +45,11 @@ answer_length Cleared = 0
 
 answer_long : (a : Answer) → length (answer_bytes a) ≡ answer_length a
 unfolding answer_bytes
-answer_long (Offered r) = said_long (said_of r)
-answer_long (Texted r) = refl
-answer_long (Looked r) = looked_long (looked_of r)
+answer_long (Offered r) = offered_long r
+answer_long (Texted r) = texted_long r
+answer_long (Looked r) = looked_long r
 answer_long (Counted c) = refl
-answer_long (Printed r) = refl
+answer_long (Printed r) = printed_long r
 answer_long Cleared = refl
 
 -- an answer's own bytes are as many as its call has

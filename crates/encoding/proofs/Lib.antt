@@ -1,6 +1,5 @@
-mod Frames
-mod Numbers
-mod Texts
+pub mod Reader
 mod Heads
+mod Begins
 pub mod Placing
 pub mod Lengths

@@ -1,9 +1,9 @@
 -- How bytes read as the call that they begin with. Assumes nothing.
-use Rattle.std.specs.Prelude.{◌≡◌, ℕ, ◌+◌, ◌-◌, ◌^◌, ◌<◌, ◌≤◌, cond, List, ◌++◌, length as len, take, drop, Some, None, Option, ◌≢◌, nat_le, slice_index}
+use Rattle.std.specs.Prelude.{◌≡◌, ℕ, ◌^◌, ◌<◌, List, ◌++◌, length as len, drop, Some, None, Option, ◌≢◌}
 use Rattle.frames.specs.declared.frame.Frame.{Frame}
 use Rattle.runs.specs.Runs.{called}
 use Rattle.encoding.specs.declared.request.Request.{Request}
-use Rattle.encoding.specs.Words.{word4, word8, number4, number8}
+use Rattle.encoding.specs.Words.{word4}
 use Rattle.encoding.specs.Requests.{Requested, called_of, room_of, frame_bytes, bytes_of, FrameFits, Fits}
 
 -- the bytes s begin with the call q, which x is, and with no other
@@ -20,43 +20,19 @@ abbrev pub Reads : List ℕ → Option Request → Type 0
 Reads s None = (p : Requested) (rest : List ℕ) → Fits p → s ≢ bytes_of p ++ rest
 Reads s (Some x) = (q : Requested) × Head s x q
 
--- the number n is v, below `high`, and stands in the first k bytes as it is written
-pub record Written (k : ℕ) (s : List ℕ) (v high : ℕ) (bytes : ℕ → List ℕ) (n : ℕ) : Type 0 where
-  pub long : k ≤ len s
-  pub value : n ≡ v
-  pub fits : n < high
-  pub back : s ≡ bytes n ++ drop k s
+-- the bytes s begin with those of the value that there is, which fits; where there is none, with those of no value
+abbrev pub Begins : {A : Type 0} → (A → Type 0) → (A → List ℕ) → List ℕ → Option A → Type 0
+Begins {A} fits bytes s None = (x : A) (rest : List ℕ) → fits x → s ≢ bytes x ++ rest
+Begins {A} fits bytes s (Some x) = (rest : List ℕ) × fits x × (s ≡ bytes x ++ rest)
 
--- n is the number that the first four bytes write, if there are so many
+-- a number of four bytes
 abbrev pub Word : List ℕ → Option ℕ → Type 0
-Word s None = len s < 4
-Word s (Some n) = Written 4 s (number4 s) (2 ^ 32) word4 n
+Word s o = Begins (λ n. n < 2 ^ 32) word4 s o
 
--- n is the number that the first eight bytes write
-abbrev pub LongWord : List ℕ → ℕ → Type 0
-LongWord s n = Written 8 s (number8 s) (2 ^ 64) word8 n
-
--- the frame that the first 17 bytes are
-abbrev pub frame_in : List ℕ → Frame
-frame_in s =
-    record { number = number4 s; marks = number8 (drop 4 s); look = slice_index s 12; lane = slice_index s 13; tail = slice_index s 14; head = slice_index s 15; side = slice_index s 16 }
-
-pub record FramedAs (s : List ℕ) (x : Frame) : Type 0 where
-  pub long : 17 ≤ len s
-  pub value : x ≡ frame_in s
-  pub fits : FrameFits x
-  pub back : s ≡ frame_bytes x ++ drop 17 s
-
--- x is the frame that the first 17 bytes are, if there are so many
+-- a frame
 abbrev pub Framed : List ℕ → Option Frame → Type 0
-Framed s None = len s < 17
-Framed s (Some x) = FramedAs s x
+Framed s o = Begins FrameFits frame_bytes s o
 
--- the text that a length and as many bytes are
-abbrev pub text_in : List ℕ → Option (List ℕ)
-text_in s = cond (nat_le 4 (len s)) (cond (nat_le (number4 s) (len s - 4)) (Some (take (number4 s) (drop 4 s))) None) None
-
-pub record TextAs (s t : List ℕ) : Type 0 where
-  pub value : text_in s ≡ Some t
-  pub fits : len t < 2 ^ 32
-  pub back : s ≡ word4 (len t) ++ (t ++ drop (4 + len t) s)
+-- a text behind its length
+abbrev pub Texted : List ℕ → Option (List ℕ) → Type 0
+Texted s o = Begins (λ t. len t < 2 ^ 32) (λ t. word4 (len t) ++ t) s o

@@ -12,8 +12,21 @@ pub struct Request<'a> {
     pub room: usize,
 }
 
-impl Request<'_> {
-    // How many bytes its answer takes, beside the print-out.
+impl<'a> Request<'a> {
+    // A call without a print-out.
+    pub(crate) fn silent(call: Call<'a>, length: usize) -> Request<'a>
+        ensures call { called result.call ≡ called call.entry }
+        ensures length { result.length ≡ length }
+        ensures room { result.room ≡ 0 }
+    {
+        Request {
+            call,
+            length,
+            room: 0,
+        }
+    }
+
+    // How many bytes its answer takes in the byte format, beside the print-out.
     pub fn fixed(&self) -> usize
         ensures { result ≡ fixed_of (called self.now.call) }
     {

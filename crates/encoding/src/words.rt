@@ -1,5 +1,4 @@
-ghost use Rattle.std.specs.Prelude.{◌≤◌, length};
-ghost use Rattle.encoding.specs.Reading.{Word, LongWord, Framed};
+ghost use Rattle.encoding.specs.Reading.{Framed, Word};
 
 use frames::frame::Frame;
 
@@ -7,35 +6,24 @@ use frames::frame::Frame;
 pub(crate) fn u32_in(bytes: &[u8]) -> Option<u32>
     ensures { Word bytes.now result }
 {
-    if bytes.len() < 4 {
-        return None;
-    }
-    Some(u32::from_le_bytes([bytes[0], bytes[1], bytes[2], bytes[3]]))
-}
-
-fn u64_in(bytes: &[u8]) -> u64
-    requires { 8 ≤ length bytes.now }
-    ensures { LongWord bytes.now result }
-{
-    u64::from_le_bytes([
-        bytes[0], bytes[1], bytes[2], bytes[3], bytes[4], bytes[5], bytes[6], bytes[7],
-    ])
+    let word = bytes.first_chunk()?;
+    Some(u32::from_le_bytes(*word))
 }
 
 // The frame that the first 17 bytes are.
 pub(crate) fn frame_in(bytes: &[u8]) -> Option<Frame>
     ensures { Framed bytes.now result }
 {
-    if bytes.len() < 17 {
-        return None;
-    }
+    let (number, rest) = bytes.split_first_chunk()?;
+    let (marks, rest) = rest.split_first_chunk()?;
+    let [look, lane, tail, head, side] = *rest.first_chunk::<5>()?;
     Some(Frame {
-        number: u32_in(bytes)?,
-        marks: u64_in(&bytes[4..]),
-        look: bytes[12],
-        lane: bytes[13],
-        tail: bytes[14],
-        head: bytes[15],
-        side: bytes[16],
+        number: u32::from_le_bytes(*number),
+        marks: u64::from_le_bytes(*marks),
+        look,
+        lane,
+        tail,
+        head,
+        side,
     })
 }

@@ -9,24 +9,14 @@ use Rattle.frames.specs.declared.frame.Frame.{Frame}
 use Rattle.kept.specs.Tables.{frame_at, gain_at}
 use Rattle.exchange.specs.declared.outcome.Outcome.{Outcome}
 use Rattle.exchange.specs.declared.outcome.Outcome.TheVariants.{Empty, Kept, Swapped, Light, Barred}
-use Rattle.exchange.specs.Outcomes.{displaced, outcome_of, kept_after, accepted, PlaceStands}
+use Rattle.exchange.specs.Outcomes.{displaced, outcome_of, kept_after, accepted}
 
 module _ (adm : List Frame → Bool) (n : ℕ) (es : List (Frame × ℕ)) (x : Frame) (g : ℕ) (pos : 0 < g) where
-  pub kept_outcome : has_room adm n es x ≡ true → Kept (length es) g ≡ outcome_of adm n es x g
-  kept_outcome e =
-      sym (cond-false (eqb g 0) Empty (cond (has_room adm n es x) (Kept (length es) g) (displaced es g (lightest (may_take adm es x) (gains es)))) (ne_eqb g 0 (λ z. omega arith))
-      ∙ ap (λ b. cond b (Kept (length es) g) (displaced es g (lightest (may_take adm es x) (gains es)))) e)
-
   pub displaced_outcome : has_room adm n es x ≡ false → (o : Option ℕ) → LightestIs (may_take adm es x) (gains es) o → displaced es g o ≡ outcome_of adm n es x g
   displaced_outcome e o is =
       sym (cond-false (eqb g 0) Empty (cond (has_room adm n es x) (Kept (length es) g) (displaced es g (lightest (may_take adm es x) (gains es)))) (ne_eqb g 0 (λ z. omega arith))
       ∙ ap (λ b. cond b (Kept (length es) g) (displaced es g (lightest (may_take adm es x) (gains es)))) e
       ∙ ap (displaced es g) (lightest_from (may_take adm es x) (gains es) o is))
-
-pub displaced_place : (adm : List Frame → Bool) (es : List (Frame × ℕ)) (x : Frame) (g : ℕ) (o : Option ℕ) → LightestIs (may_take adm es x) (gains es) o → PlaceStands adm es x (displaced es g o)
-displaced_place adm es x g None is = is
-displaced_place adm es x g (Some p) is =
-    cond_both (leb (2 * gain_at es p) g) (Swapped p g (frame_at es p)) (Light p g (gain_at es p)) (PlaceStands adm es x) (λ _. is) (λ _. is)
 
 -- the state after an outcome
 abbrev pub settled : State Frame → Frame → Outcome → State Frame

@@ -1,5 +1,5 @@
 -- What becomes of an offered frame, and what is kept then. Assumes nothing.
-use Rattle.std.specs.Prelude.{◌≡◌, ℕ, ◌*◌, Bool, true, false, cond, List, [], ◌∷◌, ◌++◌, length, Some, None, Option, ◌==◌, nat_le, slice_set}
+use Rattle.std.specs.Prelude.{◌≡◌, ℕ, ◌*◌, Bool, true, false, if◌then◌else◌, List, [], ◌∷◌, ◌++◌, length, Some, None, Option, ◌==◌, nat_le, slice_set}
 use Rattle.theory.specs.Lightest.{LightestIs}
 use Rattle.theory.specs.Replay.{gains, lightest, may_take, has_room}
 use Rattle.frames.specs.declared.frame.Frame.{Frame}
@@ -10,13 +10,12 @@ use Rattle.exchange.specs.declared.outcome.Outcome.TheVariants.{Empty, Kept, Swa
 -- a frame of gain g takes the lightest place that counts if its gain is at least twice the gain there
 abbrev pub displaced : List (Frame × ℕ) → ℕ → Option ℕ → Outcome
 displaced es g None = Barred g
-displaced es g (Some p) = cond (nat_le (2 * gain_at es p) g) (Swapped p g (frame_at es p)) (Light p g (gain_at es p))
+displaced es g (Some p) = if nat_le (2 * gain_at es p) g then Swapped p g (frame_at es p) else Light p g (gain_at es p)
 
 -- what becomes of x, of gain g, where es are kept, at most n of them
 abbrev pub outcome_of : (List Frame → Bool) → ℕ → List (Frame × ℕ) → Frame → ℕ → Outcome
 outcome_of adm n es x g =
-    cond (g == 0) Empty
-    (cond (has_room adm n es x) (Kept (length es) g) (displaced es g (lightest (may_take adm es x) (gains es))))
+    if g == 0 then Empty else (if has_room adm n es x then Kept (length es) g else displaced es g (lightest (may_take adm es x) (gains es)))
 
 -- what is kept after that
 abbrev pub kept_after : Outcome → Frame → List (Frame × ℕ) → List (Frame × ℕ)

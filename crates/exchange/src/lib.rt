@@ -1,5 +1,6 @@
 #![tactic(auto)]
 
+mod bid;
 pub mod judge;
 pub mod outcome;
 mod rows;

@@ -1,7 +1,8 @@
-ghost use Rattle.std.specs.Prelude.{◌≡◌, ◌+◌, ◌-◌, ◌^◌, ◌<◌, ◌≤◌, ◌∷◌, length, take};
+ghost use Rattle.std.specs.Prelude.{◌≡◌, ◌-◌, ◌^◌, ◌<◌, ◌≤◌, ◌∷◌};
 ghost use Rattle.theory.specs.Replay.{frames};
-ghost use Rattle.kept.specs.Tables.{entries_of, held};
+ghost use Rattle.kept.specs.Tables.{held};
 
+use arrayvec::ArrayVec;
 use frames::frame::Frame;
 use kept::table::KeptTable;
 
@@ -23,14 +24,13 @@ pub(crate) fn all_but(n: usize, p: usize) -> u64
 }
 
 // `x`, and the kept frames behind it.
-pub(crate) fn behind(x: Frame, table: &KeptTable) -> [Frame; 49]
-    ensures full { length result ≡ 49 }
-    ensures front { take (length (entries_of table.now) + 1) result ≡ x ∷ frames (held table.now) }
+pub(crate) fn behind(x: Frame, table: &KeptTable) -> ArrayVec<Frame, 49>
+    ensures { result.items ≡ x ∷ frames (held table.now) }
 {
-    let entries = table.entries();
-    let mut row = [x; 49];
-    for i in 0..entries.len() {
-        row[i + 1] = entries[i].frame;
+    let mut row = ArrayVec::new();
+    row.push(x);
+    for entry in table.entries() {
+        row.push(entry.frame);
     }
     row
 }

@@ -1,34 +1,33 @@
--- A run of a pile whose arguments are in order. Assumes nothing.
-use Rattle.std.proofs.Common.{◌≡◌, ℕ, Bool, true, false, cond, ◌&&◌, leb, List, None, Ok, Err, Option, Result, ap, ◌∙◌, subst, arith}
+-- An exported call, by what its settings were opened as. Assumes nothing.
+use Rattle.std.proofs.Common.{◌≡◌, ◌≢◌, ℕ, ◌%◌, Bool, List, Some, None, Ok, Err, Option, Result, subst, arith}
 use mathlib.Core.Path.{fun_ext}
-use Rattle.std.specs.Option.{option_map}
-use Rattle.std.specs.Result.{result_err}
+use Rattle.std.specs.Result.{IfOk, MatchResult, result_err}
 use Rattle.frames.specs.declared.frame.Frame.{Frame}
-use Rattle.frames.specs.declared.refusal.Refusal.{Refusal}
-use Rattle.frames.specs.declared.refusal.Refusal.TheVariants.{BadSize}
-use Rattle.kept.specs.Sizes.{size_answer}
-use Rattle.exports.specs.Piles.{argument, size_fault, or_next, Exported}
-use Rattle.serving.specs.Promise.{Promises}
+use Rattle.serving.specs.declared.refusal.RunRefusal.{RunRefusal}
 use Rattle.serving.specs.Serving.{Served}
+use Rattle.exports.specs.Piles.{refused_as, served_as, Ran, Exported, Opens}
+use Rattle.exports.specs.declared.fault.ArgumentFault.{ArgumentFault}
+use Rattle.exports.proofs.Served.{served_told}
 
-size_same : (b : Bool) (m n : ℕ) → ◌≡◌ {A = Result ℕ Refusal} (Ok m) (cond b (Ok n) (Err BadSize)) → m ≡ n
-size_same true m n e = cc
-size_same false m n e = let z : ◌≡◌ {A = ℕ} 0 1 = cc in absurd (omega arith)
+module _ (bytes before : List ℕ) (x : ℕ) (after : List ℕ) where
+  ran_by : (m : ℕ) (f : List Frame → ℕ) (adm : List Frame → Bool) (n : ℕ) (g : List Frame → ℕ) (alt : List Frame → Bool) → Opens m f adm n g alt → Ran f adm m bytes before x after → Ran g alt n bytes before x after
+  ran_by m f adm n g alt o r =
+      subst (λ g. Ran g alt n bytes before x after) (fun_ext o.worth)
+      (subst (λ alt. Ran f alt n bytes before x after) o.rule (subst (λ n. Ran f adm n bytes before x after) o.size r))
 
-pub size_is : (m n : ℕ) → ◌≡◌ {A = Result ℕ Refusal} (Ok m) (size_answer n) → m ≡ n
-size_is m n e = size_same (leb 1 n && leb n 48) m n e
+  -- a number of 16 low bits that are not all 0 is a refusal, and a refused run keeps the buffer
+  kept_if : (f : List Frame → ℕ) (adm : List Frame → Bool) (n : ℕ) (a : Result ℕ RunRefusal) → x ≡ served_as a → Served f adm n bytes before a after → x % 65536 ≢ 0 → after ≡ before
+  kept_if f adm n (Ok due) e s h = absurd (h (omega arith))
+  kept_if f adm n (Err a) e s h = served_told f adm n bytes before (Err a) after s
 
-pub size_in_order : (m n : ℕ) → ◌≡◌ {A = Result ℕ Refusal} (Ok m) (size_answer n) → None ≡ argument 1 (size_fault n)
-size_in_order m n e = ap (λ (r : Result ℕ Refusal). argument 1 (option_map (λ e. record { refusal = e; index = 0 }) (result_err r))) e
+  kept_when_refused : (o : Option ArgumentFault) (f : List Frame → ℕ) (adm : List Frame → Bool) (n : ℕ) → Exported o f adm n bytes before x after → x % 65536 ≢ 0 → after ≡ before
+  kept_when_refused (Some e) f adm n k h = k.1
+  kept_when_refused None f adm n k h = kept_if f adm n k.answer k.number k.served h
 
--- no argument is at fault
-pub in_order : (a b c d : Option ℕ) → None ≡ a → None ≡ b → None ≡ c → None ≡ d → None ≡ or_next a (or_next b (or_next c d))
-in_order a b c d ea eb ec ed = ed ∙ ap (λ o. or_next o d) ec ∙ ap (λ o. or_next o (or_next c d)) eb ∙ ap (λ o. or_next o (or_next b (or_next c d))) ea
+  exported_if : (o : Option ArgumentFault) (f : List Frame → ℕ) (adm : List Frame → Bool) (n : ℕ) → Exported o f adm n bytes before x after → Exported o f adm n bytes before x after × (x % 65536 ≢ 0 → after ≡ before)
+  exported_if o f adm n e = (e, kept_when_refused o f adm n e)
 
--- a run of a pile, by equal parts
-pub exported_by : (o : Option ℕ) (f g : List Frame → ℕ) (adm alt : List Frame → Bool) (m n : ℕ) (bytes before : List ℕ) (r : ℕ) (after : List ℕ) → None ≡ o → ((s : List Frame) → f s ≡ g s) → adm ≡ alt → m ≡ n → Served f adm m bytes before r after → Promises f adm m → Exported o g alt n bytes before r after
-exported_by o f g adm alt m n bytes before r after none ef ea en h k =
-    subst (λ o. Exported o g alt n bytes before r after) none
-    (subst (λ g. Served g alt n bytes before r after × Promises g alt n) (fun_ext ef)
-    (subst (λ alt. Served f alt n bytes before r after × Promises f alt n) ea
-    (subst (λ n. Served f adm n bytes before r after × Promises f adm n) en (h, k))))
+  pub exported_by : {S : Type 0} (size : S → ℕ) (worth : S → List Frame → ℕ) (rule : S → List Frame → Bool) (n : ℕ) (g : List Frame → ℕ) (alt : List Frame → Bool) (r : Result S ArgumentFault) (o : Option ArgumentFault)
+      → result_err r ≡ o → IfOk r (λ s. Opens (size s) (worth s) (rule s) n g alt) → MatchResult r (λ s. Ran (worth s) (rule s) (size s) bytes before x after) (λ e. (x ≡ refused_as e) × (after ≡ before)) → Exported o g alt n bytes before x after × (x % 65536 ≢ 0 → after ≡ before)
+  exported_by size worth rule n g alt (Ok s) o e opens ran = exported_if o g alt n (subst (λ o. Exported o g alt n bytes before x after) e (ran_by (size s) (worth s) (rule s) n g alt opens ran))
+  exported_by size worth rule n g alt (Err f) o e opens ran = exported_if o g alt n (subst (λ o. Exported o g alt n bytes before x after) e ran)

@@ -1,1 +1,2 @@
 mod Exported
+pub mod Served

@@ -1,4 +1,8 @@
 #![tactic(auto)]
 
+mod fault;
+mod number;
+mod opened;
 pub mod piles;
-mod refused;
+mod run;
+mod settings;

@@ -1,8 +1,11 @@
 #![tactic(auto)]
 
+ghost use Rattle.std.specs.Prelude.{◌≡◌, ◌≢◌, ◌%◌};
 ghost use Rattle.exports.specs.Piles.{Exported, capped_facility, capped_facility_laminar_fault, concave_coverage, concave_graphic_fault, coverage_of, coverage_partition_fault, graphic_partition, partition_of, truncated_laminar};
 
 use exports::piles;
+
+// C links by a function's own name, so each is passed on here, with its contract.
 
 // Coverage over a partition matroid.
 #[unsafe(no_mangle)]
@@ -13,7 +16,8 @@ pub extern "C" fn fogetsu_coverage_partition(
     calls: &[u8],
     answers: &mut [u8],
 ) -> u64
-    ensures { Exported (coverage_partition_fault size weights.now caps.now) (coverage_of weights.now) (partition_of caps.now) size calls.now answers.old result answers.new }
+    ensures exported { Exported (coverage_partition_fault size weights.now caps.now) (coverage_of weights.now) (partition_of caps.now) size calls.now answers.old result answers.new }
+    ensures refused { result % 65536 ≢ 0 → answers.new ≡ answers.old }
 {
     piles::fogetsu_coverage_partition(size, weights, caps, calls, answers)
 }
@@ -31,7 +35,8 @@ pub extern "C" fn fogetsu_capped_facility_laminar(
     calls: &[u8],
     answers: &mut [u8],
 ) -> u64
-    ensures { Exported (capped_facility_laminar_fault size weights.now most caps.now parents.now) (capped_facility weights.now cap table.now) (truncated_laminar most caps.now parents.now) size calls.now answers.old result answers.new }
+    ensures exported { Exported (capped_facility_laminar_fault size weights.now most caps.now parents.now) (capped_facility weights.now cap table.now) (truncated_laminar most caps.now parents.now) size calls.now answers.old result answers.new }
+    ensures refused { result % 65536 ≢ 0 → answers.new ≡ answers.old }
 {
     piles::fogetsu_capped_facility_laminar(
         size, weights, cap, table, most, caps, parents, calls, answers,
@@ -48,7 +53,8 @@ pub extern "C" fn fogetsu_concave_graphic(
     calls: &[u8],
     answers: &mut [u8],
 ) -> u64
-    ensures { Exported (concave_graphic_fault size steps.now weights.now caps.now) (concave_coverage steps.now weights.now) (graphic_partition caps.now) size calls.now answers.old result answers.new }
+    ensures exported { Exported (concave_graphic_fault size steps.now weights.now caps.now) (concave_coverage steps.now weights.now) (graphic_partition caps.now) size calls.now answers.old result answers.new }
+    ensures refused { result % 65536 ≢ 0 → answers.new ≡ answers.old }
 {
     piles::fogetsu_concave_graphic(size, steps, weights, caps, calls, answers)
 }

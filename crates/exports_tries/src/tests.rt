@@ -6,8 +6,7 @@ use exports::piles::{
 // Class 0 weighs 100, class 1 weighs 50.
 fn weights() -> [u32; 64] {
     let mut weights = [0; 64];
-    weights[0] = 100;
-    weights[1] = 50;
+    weights[..2].copy_from_slice(&[100, 50]);
     weights
 }
 
@@ -94,8 +93,7 @@ fn joined(steps: &[u32], answers: &mut [u8]) -> u64 {
 #[test]
 fn concave_counts_and_coverage_over_two_sides(rt: HostRuntime) {
     let mut steps = [0; 512];
-    steps[0] = 9;
-    steps[1] = 4;
+    steps[..2].copy_from_slice(&[9, 4]);
     let mut answers = [9; 84];
     assert_eq!(rt; joined(&steps, &mut answers), 84 * 65_536);
     let offered = b"\0\x01\0\x9f\0\0\0\0\0\0\0";

@@ -53,7 +53,9 @@ impl<'a> Objective for FacilityLocation<'a> {
     }
 
     fn add(&mut self, x: &Frame) {
-        raise(&mut self.best, self.table, x.look);
+        for (v, best) in self.best.iter_mut().enumerate() {
+            *best = (*best).max(likeness(self.table, x.look, v));
+        }
     }
 
     fn reset(&mut self) {
@@ -66,16 +68,5 @@ fn likeness(table: &[u16], look: u8, v: usize) -> u16
     requires { v < 64 }
     ensures { result ≡ likeness_at table.now look v }
 {
-    let place = 64 * look as usize + v;
-    if place < table.len() { table[place] } else { 0 }
-}
-
-// Raises each view to the likeness of a look, if that is more.
-fn raise(best: &mut [u16], table: &[u16], look: u8)
-    requires { length best.old ≡ 64 }
-    ensures { (v : ℕ) → v < 64 → slice_index best.new v ≡ max (slice_index best.old v) (likeness_at table.now look v) }
-{
-    for v in 0..64 {
-        best[v] = best[v].max(likeness(table, look, v));
-    }
+    table.get(64 * look as usize + v).copied().unwrap_or(0)
 }

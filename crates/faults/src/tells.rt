@@ -5,7 +5,7 @@ ghost use Rattle.faults.specs.declared.fault.TextFault.TheVariants.{Record as Of
 
 use crate::fault::{RecordFault, TextFault};
 use frames::refusal::Refusal;
-use spots::fault::{LineFault, Spot};
+use spots::fault::{Fault, LineFault, Spot};
 
 impl From<LineFault> for RecordFault {
     ghost from_gives = { λ e r. r ≡ OfLine e };
@@ -23,20 +23,20 @@ impl From<RecordFault> for TextFault {
     }
 }
 
-impl RecordFault {
-    pub fn refusal(self) -> Refusal
-        ensures { result ≡ record_refusal self }
-    {
+impl Fault for RecordFault {
+    ghost refused_as = { record_refusal };
+
+    ghost stopped_at = { record_spot };
+
+    fn refusal(self) -> Refusal {
         match self {
             RecordFault::Line(fault) => fault.refusal(),
             RecordFault::ShiftFull { .. } => Refusal::ShiftFull,
         }
     }
 
-    // A full shift is no line's fault: its line is 0.
-    pub fn spot(self) -> Spot
-        ensures { result ≡ record_spot self }
-    {
+    // A full shift is no line's fault: what is printed and answered of it says line 0.
+    fn spot(self) -> Spot {
         match self {
             RecordFault::Line(fault) => fault.spot(),
             RecordFault::ShiftFull { record, byte } => Spot {
@@ -48,27 +48,23 @@ impl RecordFault {
     }
 }
 
-impl TextFault {
-    pub fn refusal(self) -> Refusal
-        ensures { result ≡ text_refusal self }
-    {
+impl Fault for TextFault {
+    ghost refused_as = { text_refusal };
+
+    ghost stopped_at = { text_spot };
+
+    fn refusal(self) -> Refusal {
         match self {
             TextFault::Record(fault) => fault.refusal(),
             TextFault::LongText => Refusal::LongText,
         }
     }
 
-    // A text that is too long is not looked into: all three are 0.
-    pub fn spot(self) -> Spot
-        ensures { result ≡ text_spot self }
-    {
+    // A text that is too long is not looked into: what is printed and answered of it says 0 three times.
+    fn spot(self) -> Spot {
         match self {
             TextFault::Record(fault) => fault.spot(),
-            TextFault::LongText => Spot {
-                record: 0,
-                line: 0,
-                byte: 0,
-            },
+            TextFault::LongText => Spot::default(),
         }
     }
 }

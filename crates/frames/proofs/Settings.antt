@@ -1,12 +1,16 @@
 -- What it means that a list of settings is not refused. Assumes nothing.
-use Rattle.std.proofs.Common.{◌≡◌, ℕ, ◌+◌, ◌<◌, ◌≤◌, eqb, leb, List, [], ◌∷◌, length, get_or, drop, Some, None, sym, ◌∙◌, ⊎_elim, arith}
+use Rattle.std.proofs.Common.{◌≡◌, ℕ, ◌+◌, ◌%◌, ◌<◌, ◌≤◌, cond, eqb, leb, List, [], ◌∷◌, length, get_or, drop, Some, None, Option, sym, ◌∙◌, ⊎_elim, arith}
 use Rattle.std.specs.List.{AllByRecursion}
+use Rattle.std.proofs.Math.Nat.{mod-eq_of_lt}
+use Rattle.std.proofs.lemmas.Grind.{same_number_lists}
 use Rattle.std.proofs.lemmas.List.{at_drop_more, at_drop_all}
-use Rattle.std.proofs.lemmas.Bool.{cases_Bool, leb-true, le-leb, lt-leb, eqb-true, eq-eqb, ne_eqb, cond-true, cond-false}
+use Rattle.std.proofs.lemmas.Bool.{cases_Bool, leb-true, le-leb, lt-leb, eqb-true, eq-eqb, cond-true, cond-false}
 use Rattle.frames.specs.declared.refusal.Refusal.TheVariants.{Over, Miscount}
-use Rattle.frames.specs.Settings.{first_over, numbers_fault}
+use Rattle.frames.specs.declared.setting.SettingFault.{SettingFault}
+use Rattle.frames.specs.Settings.{first_over, count_fault, numbers_fault}
 
-some_none : {X : Type 0} (x : X) → Some x ≡ None → ⊥
+-- something is not nothing
+pub some_none : {X : Type 0} (x : X) → Some x ≡ None → ⊥
 some_none x e = let z : ◌≡◌ {A = ℕ} 0 1 = cc in omega arith
 
 over_none : (highest i : ℕ) (ns : List ℕ) → first_over highest i ns ≡ None → AllByRecursion (λ n. n ≤ highest) ns
@@ -26,10 +30,18 @@ numbers_accepted count highest ns e =
     (λ t. absurd (some_none (record { refusal = Miscount; index = 0 }) (sym (cond-false (eqb (length ns) count) (first_over highest 0 ns) (Some (record { refusal = Miscount; index = 0 })) t) ∙ e)))
     (cases_Bool (eqb (length ns) count))
 
--- a list of another length
-pub numbers_miscount : (count highest : ℕ) (ns : List ℕ) → (length ns ≡ count → ⊥) → Some (record { refusal = Miscount; index = 0 }) ≡ numbers_fault count highest ns
+-- a list of another length is refused for that, whatever else is asked of it
+pub miscounted : (count : ℕ) (ns : List ℕ) (e : SettingFault) (other : Option SettingFault) → Some e ≡ count_fault count ns
+    → Some e ≡ cond (eqb (length ns) count) other (Some (record { refusal = Miscount; index = 0 }))
+miscounted count ns e other h =
+    ⊎_elim
+    (λ t. absurd (some_none e (h ∙ cond-true (eqb (length ns) count) None (Some (record { refusal = Miscount; index = 0 })) t)))
+    (λ t. h ∙ cond-false (eqb (length ns) count) None (Some (record { refusal = Miscount; index = 0 })) t ∙ sym (cond-false (eqb (length ns) count) other (Some (record { refusal = Miscount; index = 0 })) t))
+    (cases_Bool (eqb (length ns) count))
+
+pub numbers_miscounted : (count highest : ℕ) (ns : List ℕ) (e : SettingFault) → Some e ≡ count_fault count ns → Some e ≡ numbers_fault count highest ns
 unfolding numbers_fault
-numbers_miscount count highest ns h = sym (cond-false (eqb (length ns) count) (first_over highest 0 ns) (Some (record { refusal = Miscount; index = 0 })) (ne_eqb (length ns) count h))
+numbers_miscounted count highest ns e h = miscounted count ns e (first_over highest 0 ns) h
 
 -- a list of the right length is looked through from its start
 pub numbers_counted : (count highest : ℕ) (ns : List ℕ) → length ns ≡ count → first_over highest 0 ns ≡ numbers_fault count highest ns
@@ -48,3 +60,9 @@ module _ (highest : ℕ) (ns : List ℕ) (i : ℕ) (d : ℕ) where
   -- the end is reached
   pub over-all : length ns ≤ i → first_over highest i (drop i ns) ≡ None
   over-all l = at_drop_all (first_over highest i) ns i l
+
+-- bytes that are the low bytes of numbers below 256 are those numbers
+pub low_bytes_same :
+    (bytes ns : List ℕ) (n : ℕ) → length bytes ≡ n → length ns ≡ n → ((i : ℕ) → get_or ns i 0 ≤ 255)
+    → ((i : ℕ) → i < n → get_or bytes i 0 ≡ get_or ns i 0 % 256) → bytes ≡ ns
+low_bytes_same bytes ns n long many small low = same_number_lists bytes ns (omega arith) (λ k h. low k (omega arith) ∙ mod-eq_of_lt (omega (arith, small k)))

@@ -1,6 +1,6 @@
 // One frame of the camera: its number, the classes it shows, its row in the table of likenesses, its lane, the two
 // stations it joins, and its side of the line.
-#[derive(Clone, Copy, PartialEq, Eq, Debug)]
+#[derive(Clone, Copy, PartialEq, Eq, Debug, Default)]
 pub struct Frame {
     pub number: u32,
     pub marks: u64,

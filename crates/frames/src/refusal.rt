@@ -1,21 +1,21 @@
 ghost use Rattle.std.specs.Prelude.{◌≡◌};
 ghost use Rattle.frames.specs.Refusals.{number_of};
 
-// Why a call is declined.
+// Why a call is declined, each with the number by which users know it.
 #[derive(Clone, Copy, PartialEq, Eq, Debug)]
 pub enum Refusal {
-    BadSize,
-    ShiftFull,
-    NoPlace,
-    ShortSheet,
-    WrongKey,
-    BadForm,
-    Over,
-    Cut,
-    LongText,
-    Miscount,
-    Rising,
-    BadParent,
+    BadSize = 1,
+    ShiftFull = 2,
+    NoPlace = 3,
+    ShortSheet = 4,
+    WrongKey = 5,
+    BadForm = 6,
+    Over = 7,
+    Cut = 8,
+    LongText = 9,
+    Miscount = 10,
+    Rising = 11,
+    BadParent = 12,
 }
 
 impl Refusal {
@@ -23,19 +23,6 @@ impl Refusal {
     pub fn number(self) -> u8
         ensures { result ≡ number_of self }
     {
-        match self {
-            Refusal::BadSize => 1,
-            Refusal::ShiftFull => 2,
-            Refusal::NoPlace => 3,
-            Refusal::ShortSheet => 4,
-            Refusal::WrongKey => 5,
-            Refusal::BadForm => 6,
-            Refusal::Over => 7,
-            Refusal::Cut => 8,
-            Refusal::LongText => 9,
-            Refusal::Miscount => 10,
-            Refusal::Rising => 11,
-            Refusal::BadParent => 12,
-        }
+        self as u8
     }
 }

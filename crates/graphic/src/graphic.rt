@@ -1,13 +1,14 @@
-ghost use Rattle.std.specs.Prelude.{◌≡◌, ◌&&◌, List, ◌∷◌, map, length, if◌then◌else◌};
+ghost use Rattle.std.specs.Prelude.{◌≡◌, map, length};
 ghost use Rattle.std.specs.List.{range_with_len};
 ghost use Rattle.cycles.specs.Graphs.{graphic};
 ghost use Rattle.cycles.specs.Labels.{merged, joins_by};
+ghost use Rattle.cycles.proofs.Labels.{joins_none};
 ghost use Rattle.cycles.proofs.Theorem.{graphic_matroid};
-ghost use Rattle.frames.specs.declared.frame.Frame.{Frame as FrameOf};
 ghost use Rattle.frames.proofs.Equality.{same-frames};
 
 use frames::frame::Frame;
 use matroids::matroid::Matroid;
+use matroids::room::{Room, takes_chosen};
 
 // Graphic matroid over the stations 0 to 255, where each frame joins its tail and its head: no non-empty part of the
 // frames touches every station an even number of times.
@@ -20,51 +21,59 @@ impl Matroid for GraphicMatroid {
     ghost laws = { λ _. graphic_matroid same-frames (λ x. x.tail) (λ x. x.head) };
 
     fn independent(&self, frames: &[Frame], places: u64) -> bool {
+        takes_chosen(Labels::new(), frames, places)
+    }
+}
+
+// A label for each station: the frames taken so far join the stations of equal labels.
+#[derive(Drop)]
+struct Labels {
+    labels: [u8; 256],
+    ghost count: { length labels ≡ 256 },
+}
+
+impl Labels {
+    // Each station has itself for a label.
+    fn new() -> Labels
+        ensures { result.labels ≡ range_with_len 0 256 }
+    {
         let mut labels = [0; 256];
-        number(&mut labels);
-        let mut rest = places;
-        for x in frames {
-            if !joins(&mut labels, x, rest % 2 == 1) {
-                return false;
-            }
-            rest /= 2;
+        for (i, label) in labels.iter_mut().enumerate() {
+            *label = i as u8;
         }
+        Labels { labels }
+    }
+
+    // Each label b becomes a.
+    fn merge(&mut self, a: u8, b: u8)
+        ensures { self.new.labels ≡ map (merged a b) self.old.labels }
+    {
+        for label in self.labels.iter_mut() {
+            *label = relabelled(*label, a, b);
+        }
+    }
+}
+
+impl Room for Labels {
+    ghost admits = { λ room. joins_by (λ x. x.tail) (λ x. x.head) room.labels };
+
+    // A frame fits if it joins stations of different labels, which it makes one.
+    fn takes(&mut self, x: &Frame) -> bool {
+        let a = self.labels[x.tail as usize];
+        let b = self.labels[x.head as usize];
+        if a == b {
+            return false;
+        }
+        self.merge(a, b);
         true
     }
+
+    ghost nothing = { λ room. joins_none (λ x. x.tail) (λ x. x.head) room.labels };
 }
 
-// Each station has itself for a label.
-fn number(labels: &mut [u8])
-    requires { length labels.old ≡ 256 }
-    ensures { labels.new ≡ range_with_len 0 256 }
+// A label after the label b has become a.
+fn relabelled(label: u8, a: u8, b: u8) -> u8
+    ensures { result ≡ merged a b label }
 {
-    for i in 0..256 {
-        labels[i] = i as u8;
-    }
-}
-
-// Whether x joins two stations of different labels, where it is chosen at all. A chosen frame makes their labels one.
-fn joins(labels: &mut [u8], x: &Frame, chosen: bool) -> bool
-    requires { length labels.old ≡ 256 }
-    ensures { (s : List FrameOf) → joins_by (λ y. y.tail) (λ y. y.head) labels.old (if chosen then x.now ∷ s else s) ≡ (result && joins_by (λ y. y.tail) (λ y. y.head) labels.new s) }
-{
-    if !chosen {
-        return true;
-    }
-    let a = labels[x.tail as usize];
-    let b = labels[x.head as usize];
-    if a == b {
-        return false;
-    }
-    merge(labels, a, b);
-    true
-}
-
-// Each label b becomes a.
-fn merge(labels: &mut [u8], a: u8, b: u8)
-    ensures { labels.new ≡ map (merged a b) labels.old }
-{
-    for i in 0..labels.len() {
-        labels[i] = if labels[i] == b { a } else { labels[i] };
-    }
+    if label == b { a } else { label }
 }

@@ -1,13 +1,18 @@
 -- What a table of kept frames holds. Assumes nothing.
-use Rattle.std.specs.Prelude.{ℕ, List, map, take, slice_index, slice_index_or}
+use Rattle.std.specs.Prelude.{ℕ, List, map, slice_index, slice_index_or}
 use Rattle.theory.specs.Replay.{frames, gains}
 use Rattle.frames.specs.declared.frame.Frame.{Frame}
 use Rattle.frames.specs.declared.entry.Entry.{Entry}
 use Rattle.kept.specs.declared.table.KeptTable.{KeptTable}
+use Rattle.kept.specs.declared.table.TableFull.{TableFull}
 
--- the entries that count
+-- the entries, by place
 abbrev pub entries_of : KeptTable → List Entry
-entries_of t = take t.len t.entries
+entries_of t = t.entries.items
+
+-- that no place is left
+abbrev pub table_full : TableFull
+table_full = record {}
 
 -- each entry as a frame and its gain
 abbrev pub pairs : List Entry → List (Frame × ℕ)

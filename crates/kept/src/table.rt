@@ -1,12 +1,16 @@
-ghost use Rattle.std.specs.Prelude.{◌≡◌, ◌≤◌, length};
+ghost use Rattle.std.specs.Prelude.{◌≡◌, ◌≤◌};
+ghost use Rattle.arrayvec.specs.ArrayVec.{array_vec_len};
 
+use arrayvec::ArrayVec;
 use frames::entry::Entry;
 
-// The kept frames with their gains, by place: the first `len` of `entries`.
+// The kept frames with their gains, by place.
 #[derive(Drop)]
 pub struct KeptTable {
-    pub(crate) entries: [Entry; 48],
-    pub(crate) len: usize,
-    ghost few: { len ≤ 48 },
-    ghost full: { length entries ≡ 48 },
+    pub(crate) entries: ArrayVec<Entry, 48>,
+    ghost few: { array_vec_len entries ≤ 48 },
 }
+
+// There is no place left in the table.
+#[derive(Clone, Copy, PartialEq, Eq, Debug)]
+pub struct TableFull;

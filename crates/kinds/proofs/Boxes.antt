@@ -6,9 +6,9 @@ use Rattle.std.proofs.lemmas.List.Sums.{length-filter}
 use Rattle.std.proofs.lemmas.Bool.{cases_lt, and_parts, and_from, not-true, leb-true, le-leb}
 use Rattle.theory.specs.Bag.{Same, count}
 use Rattle.theory.specs.Laws.{MatroidLaws}
-use Rattle.theory.proofs.Orders.{orderless_sum_by, occurs_more}
+use Rattle.theory.proofs.Orders.{orderless_sum_by, occurs_more, count_by_all}
 use Rattle.kinds.specs.Matroids.{few, Splits, truncated}
-use Rattle.kinds.proofs.Counts.{count_steps, count-all}
+use Rattle.kinds.proofs.Counts.{count_steps}
 use Rattle.kinds.proofs.Parts.{matroid_same, part_exchange}
 
 module _ {A : Type 0} {same : A → A → Bool} (eq : Same same) {adm : List A → Bool} (m : MatroidLaws same adm) (p : A → Bool) (splits : Splits p adm) (c : ℕ) where
@@ -53,12 +53,12 @@ kept_none (x ∷ s) = kept_none s
 module _ {A : Type 0} {same : A → A → Bool} (eq : Same same) where
   -- one box for all
   pub truncated_matroid : {adm : List A → Bool} → MatroidLaws same adm → (k : ℕ) → MatroidLaws same (truncated adm k)
-  truncated_matroid {adm} m k = matroid_same (λ s. ap (λ n. adm s && leb n k) (count-all s)) (box_matroid eq m (λ x. true) (λ s. sym (ap₂ ◌&&◌ (ap adm (kept_all s)) (ap adm (kept_none s) ∙ m.nothing) ∙ and-true (adm s))) k)
+  truncated_matroid {adm} m k = matroid_same (λ s. ap (λ n. adm s && leb n k) (count_by_all s)) (box_matroid eq m (λ x. true) (λ s. sym (ap₂ ◌&&◌ (ap adm (kept_all s)) (ap adm (kept_none s) ∙ m.nothing) ∙ and-true (adm s))) k)
 
   pub free_matroid : MatroidLaws same (λ s. true)
   free_matroid = record {
     nothing = refl;
     order = λ r x y s. refl;
     fewer = λ x s h. refl;
-    exchange = λ s t hs ht l. let got = occurs_more eq (λ x. true) t s (omega (arith, count-all s, count-all t)) in (got.0, got.2, refl);
+    exchange = λ s t hs ht l. let got = occurs_more eq (λ x. true) t s (omega (arith, count_by_all s, count_by_all t)) in (got.0, got.2, refl);
   }

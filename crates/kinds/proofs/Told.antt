@@ -1,24 +1,15 @@
 -- What is left of an objective once some frames are added. Assumes nothing.
-use Rattle.std.proofs.Common.{◌≡◌, ℕ, ◌+◌, ◌-◌, ◌*◌, ◌≤◌, min, List, [], ◌∷◌, ◌++◌, sym, refl, ap, ◌∙◌, arith}
+use Rattle.std.proofs.Common.{◌≡◌, ℕ, ◌+◌, ◌-◌, ◌*◌, ◌≤◌, min, List, [], ◌∷◌, ◌++◌, sym, ap, ◌∙◌, arith}
 use native.Mathlib.Nat.{mul-sub}
 use Rattle.std.proofs.lemmas.List.{append-nil, append_assoc}
-use Rattle.theory.specs.Bag.{Orderless}
 use Rattle.theory.specs.Laws.{Submodular, Lawful}
+use Rattle.theory.proofs.Later.{front, grows}
 use Rattle.kinds.specs.Objectives.{Bounded, capped, joint, residual, tell}
 use Rattle.kinds.proofs.Lawful.{plus_lawful, min_lawful}
-
--- x may be taken to the front
-pub front : {A B : Type 0} (h : List A → B) → Orderless h → (a : List A) (x : A) (s : List A) → h (a ++ (x ∷ s)) ≡ h (x ∷ (a ++ s))
-front h o [] x s = refl
-front h o (z ∷ a) x s = front (λ t. h (z ∷ t)) (λ p. o (z ∷ p)) a x s ∙ o [] z x (a ++ s)
 
 module _ {A : Type 0} {f : List A → ℕ} (w : Submodular f) where
   value_front : (a : List A) (x : A) (s : List A) → f (a ++ (x ∷ s)) ≡ f (x ∷ (a ++ s))
   value_front = front f w.order
-
-  value_after : (a s : List A) → f a ≤ f (a ++ s)
-  value_after a [] = omega (arith, ap f (append-nil a))
-  value_after a (x ∷ s) = omega (arith, value_after a s, w.more x (a ++ s), value_front a x s)
 
   pub residual_lawful : (a : List A) → Submodular (residual f a)
   residual_lawful a = record {
@@ -31,7 +22,7 @@ module _ {A : Type 0} {f : List A → ℕ} (w : Submodular f) where
       value_front a x (y ∷ s) ∙ front (λ t. f (x ∷ t)) (λ p. w.order (x ∷ p)) a y s,
       value_front a x s,
       value_front a y s,
-      value_after a s,
+      grows w a s,
       w.more x (a ++ s),
       w.more y (a ++ s),
     );
@@ -39,7 +30,7 @@ module _ {A : Type 0} {f : List A → ℕ} (w : Submodular f) where
 
   -- x added to what a left leaves what a with x leaves
   pub told-residual : (a : List A) (x : A) (s : List A) → tell (residual f a) x s ≡ residual f (x ∷ a) s
-  told-residual a x s = omega (arith, value_front a x s, value_front a x [], ap (λ t. f (x ∷ t)) (append-nil a), value_after (x ∷ a) s, w.more x a)
+  told-residual a x s = omega (arith, value_front a x s, value_front a x [], ap (λ t. f (x ∷ t)) (append-nil a), grows w (x ∷ a) s, w.more x a)
 
 pub residual_small : {A : Type 0} (f : List A → ℕ) → Bounded f → (a : List A) → Bounded (residual f a)
 residual_small f h a s = omega (arith, h (a ++ s))
@@ -50,7 +41,7 @@ module _ {A : Type 0} (x : A) (s : List A) where
   told_times c f = sym (mul-sub c (f (x ∷ s)) (f (x ∷ [])))
 
   pub told_plus : {f g : List A → ℕ} → Submodular f → Submodular g → tell (λ t. f t + g t) x s ≡ tell f x s + tell g x s
-  told_plus w v = omega (arith, value_after w (x ∷ []) s, value_after v (x ∷ []) s)
+  told_plus w v = omega (arith, grows w (x ∷ []) s, grows v (x ∷ []) s)
 
   -- the value of x is taken from the cap too
   pub told-capped : (room : ℕ) (f : List A → ℕ) → tell (capped room f) x s ≡ capped (room - capped room f (x ∷ [])) (tell f x) s

@@ -1,5 +1,5 @@
 -- Which bags of frames are independent, by kind. Assumes nothing.
-use Rattle.std.specs.Prelude.{◌≡◌, ℕ, zero, suc, ◌<◌, ◌≤◌, Bool, true, not, ◌&&◌, ◌||◌, ltb, ◌⊎◌, List, length, count_by, filter, ◌==◌, nat_eq, nat_le, nat_lt, slice_index, slice_index_or}
+use Rattle.std.specs.Prelude.{◌≡◌, ℕ, zero, suc, ◌<◌, ◌≤◌, Bool, true, not, ◌&&◌, ◌||◌, ◌⊎◌, List, length, count_by, filter, ◌==◌, nat_eq, nat_le, nat_lt, slice_index, slice_index_or}
 
 -- at most c frames pass p
 abbrev pub few : {A : Type 0} → (A → Bool) → ℕ → List A → Bool
@@ -12,7 +12,7 @@ under_caps box cap (suc j) s = under_caps box cap j s && few (box j) (cap j) s
 
 -- no frame is of a lane above 63, and no box below n has more frames than its cap
 abbrev pub in_lanes : {A : Type 0} → (A → ℕ) → (ℕ → A → Bool) → List ℕ → ℕ → List A → Bool
-in_lanes lane box caps n s = few (λ x. ltb 63 (lane x)) 0 s && under_caps box (λ j. slice_index caps j) n s
+in_lanes lane box caps n s = few (λ x. nat_lt 63 (lane x)) 0 s && under_caps box (λ j. slice_index caps j) n s
 
 -- no lane has more frames than its cap
 unfoldable pub partition : {A : Type 0} → (A → ℕ) → List ℕ → List A → Bool

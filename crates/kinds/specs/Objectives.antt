@@ -1,5 +1,5 @@
 -- The value of a bag of frames, by kind. Assumes nothing.
-use Rattle.std.specs.Prelude.{ℕ, suc, ◌+◌, ◌-◌, ◌*◌, ◌/◌, ◌%◌, ◌^◌, ◌≤◌, min, max, Bool, false, cond, ◌||◌, List, [], ◌∷◌, ◌++◌, map, length, take, drop, sum_by, sum, count_by, ◌==◌, nat_eq, slice_index}
+use Rattle.std.specs.Prelude.{ℕ, suc, ◌+◌, ◌-◌, ◌*◌, ◌/◌, ◌%◌, ◌^◌, ◌≤◌, min, max, Bool, false, ◌||◌, List, [], ◌∷◌, ◌++◌, map, length, take, drop, sum_by, sum, count_by, if◌then◌else◌, ◌==◌, nat_eq, slice_index}
 use Rattle.std.specs.List.{range_with_len}
 
 -- what fits 32 bits
@@ -22,7 +22,7 @@ shows m i = m / 2 ^ i % 2 == 1
 
 -- the weight of class i, once some frame shows it
 abbrev pub of_class : {A : Type 0} → (A → ℕ) → List ℕ → ℕ → List A → ℕ
-of_class marks weights i s = cond (some (λ x. shows (marks x) i) s) (slice_index weights i) 0
+of_class marks weights i s = if some (λ x. shows (marks x) i) s then slice_index weights i else 0
 
 -- the weights of the classes that some frame shows
 unfoldable pub coverage : {A : Type 0} → (A → ℕ) → List ℕ → List A → ℕ
@@ -30,7 +30,7 @@ coverage marks weights s = sum_by (λ i. of_class marks weights i s) (range_with
 
 -- the weights, with 0 for each class in the set of those covered
 unfoldable pub uncovered : ℕ → List ℕ → List ℕ
-uncovered covered weights = map (λ i. cond (shows covered i) 0 (slice_index weights i)) (range_with_len 0 (length weights))
+uncovered covered weights = map (λ i. if shows covered i then 0 else slice_index weights i) (range_with_len 0 (length weights))
 
 -- how like view v a frame of look r is: a place past the table's end counts 0, and 16 bits hold no more than 65,535
 abbrev pub likeness : List ℕ → ℕ → ℕ → ℕ

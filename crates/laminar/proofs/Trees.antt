@@ -4,8 +4,8 @@ use Rattle.std.proofs.lemmas.List.{at_drop_more, get_or_default, get_or_past}
 use Rattle.std.proofs.lemmas.Bool.{cases_Bool, cases_eq, cases_lt, eq-eqb, ne_eqb, cond-true, cond-false}
 use Rattle.frames.specs.declared.refusal.Refusal.TheVariants.{Miscount, BadParent}
 use Rattle.frames.specs.declared.setting.SettingFault.{SettingFault}
-use Rattle.frames.specs.Settings.{numbers_fault}
-use Rattle.frames.proofs.Settings.{numbers_accepted}
+use Rattle.frames.specs.Settings.{count_fault, numbers_fault}
+use Rattle.frames.proofs.Settings.{some_none, miscounted, numbers_accepted}
 use Rattle.kinds.specs.Matroids.{parent_of, may_hold, Parents}
 use Rattle.kinds.proofs.Objectives.{get_d_le}
 use Rattle.laminar.specs.Trees.{first_bad_parent, or_else, laminar_fault}
@@ -19,10 +19,13 @@ module _ (ps : List ℕ) (b : ℕ) (d : ℕ) where
   pub bad_here : b < length ps → may_hold b (get_or ps b d) ≡ false → first_bad_parent b (drop b ps) ≡ Some (record { refusal = BadParent; index = b })
   bad_here l h = at_drop_more (first_bad_parent b) ps b d l ∙ cond-false (may_hold b (get_or ps b d)) (first_bad_parent (b + 1) (drop (b + 1) ps)) (Some (record { refusal = BadParent; index = b })) h
 
+abbrev miscount : SettingFault
+miscount = record { refusal = Miscount; index = 0 }
+
 -- a list of parents of another length
-pub tree_miscount : (caps parents : List ℕ) → (length parents ≡ 96 → ⊥) → Some (record { refusal = Miscount; index = 0 }) ≡ laminar_fault caps parents
+pub tree_miscounted : (caps parents : List ℕ) (e : SettingFault) → Some e ≡ count_fault 96 parents → Some e ≡ laminar_fault caps parents
 unfolding laminar_fault
-tree_miscount caps parents h = sym (cond-false (eqb (length parents) 96) (or_else (numbers_fault 96 48 caps) (first_bad_parent 0 parents)) (Some (record { refusal = Miscount; index = 0 })) (ne_eqb (length parents) 96 h))
+tree_miscounted caps parents e h = miscounted 96 parents e (or_else (numbers_fault 96 48 caps) (first_bad_parent 0 parents)) h
 
 -- the caps are looked at before the parents
 tree_counted : (caps parents : List ℕ) → length parents ≡ 96 → or_else (numbers_fault 96 48 caps) (first_bad_parent 0 parents) ≡ laminar_fault caps parents
@@ -35,9 +38,6 @@ module _ (caps parents : List ℕ) (long : length parents ≡ 96) where
 
   pub tree_goes : None ≡ numbers_fault 96 48 caps → first_bad_parent 0 parents ≡ laminar_fault caps parents
   tree_goes e = ap (λ o. or_else o (first_bad_parent 0 parents)) e ∙ tree_counted caps parents long
-
-some_none : {X : Type 0} (x : X) → Some x ≡ None → ⊥
-some_none x e = let z : ◌≡◌ {A = ℕ} 0 1 = cc in omega arith
 
 or_none : (one other : Option SettingFault) → or_else one other ≡ None → (one ≡ None) × (other ≡ None)
 or_none None other e = (λ i. None, e)
@@ -67,7 +67,7 @@ pub tree_accepted : (caps parents : List ℕ) → None ≡ laminar_fault caps pa
 tree_accepted caps parents e =
     ⊎_elim
     (λ long. from long)
-    (λ other. absurd (some_none (record { refusal = Miscount; index = 0 }) (tree_miscount caps parents other ∙ sym e)))
+    (λ other. absurd (some_none miscount (tree_miscounted caps parents miscount (sym (cond-false (eqb (length parents) 96) None (Some miscount) (ne_eqb (length parents) 96 other))) ∙ sym e)))
     (cases_eq (length parents) 96)
   where
     from : length parents ≡ 96 → Accepted caps parents

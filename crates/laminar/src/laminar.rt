@@ -1,23 +1,25 @@
-ghost use Rattle.std.specs.Prelude.{◌≡◌, ℕ, ◌≤◌, true, ◌&&◌, List, ◌∷◌, length, IfOk, if◌then◌else◌, MatchResult, slice_index, slice_index_or};
+ghost use Rattle.std.specs.Prelude.{◌≡◌, ℕ, ◌≤◌, true, length, IfOk, MatchResult, slice_index, slice_index_or};
 ghost use Rattle.std.specs.Result.{result_err};
-ghost use Rattle.kinds.specs.Matroids.{laminar, may_hold, Parents};
+ghost use Rattle.kinds.specs.Matroids.{laminar, may_hold};
 ghost use Rattle.kinds.proofs.Lanes.{laminar_matroid, parents_from};
-ghost use Rattle.frames.specs.declared.frame.Frame.{Frame as FrameOf};
 ghost use Rattle.frames.proofs.Equality.{same-frames};
 ghost use Rattle.laminar.specs.Trees.{laminar_fault};
 
-use crate::tree::{BOXES, check_tree, narrowed};
+use crate::tree::{BOXES, check_tree};
 use frames::frame::Frame;
-use frames::setting::SettingFault;
+use frames::setting::{SettingFault, low_bytes};
 use matroids::matroid::Matroid;
+use matroids::room::{Room, takes_chosen};
 
 const LANES: u8 = 64;
 
 // Laminar matroid over a tree of 96 boxes, the first 64 of them the lanes: no box has more frames than its cap. A frame
-// lies in its lane, in that box's parent, and so on up; the parent 255 is none. A lane above 63 has no frames.
+// lies in its lane, in that box's parent, and so on up. A lane above 63 has no frames.
 #[derive(Drop)]
 pub struct LaminarMatroid {
+    // apart from the parents, as each question begins with a copy of the caps alone
     caps: [u8; 96],
+    // as the settings number them: 255 for none
     parents: [u8; 96],
     ghost count: { length caps ≡ 96 },
     ghost paired: { length parents ≡ 96 },
@@ -33,8 +35,8 @@ impl LaminarMatroid {
     {
         check_tree(caps, parents)?;
         Ok(LaminarMatroid {
-            caps: narrowed(caps),
-            parents: narrowed(parents),
+            caps: low_bytes(caps),
+            parents: low_bytes(parents),
         })
     }
 
@@ -54,37 +56,39 @@ impl Matroid for LaminarMatroid {
     ghost laws = { λ m. laminar_matroid same-frames (λ x. x.lane) m.parents m.caps (parents_from m.parents m.paired m.tree) };
 
     fn independent(&self, frames: &[Frame], places: u64) -> bool {
-        let mut left = self.caps;
-        let mut rest = places;
-        for x in frames {
-            if !takes(&self.parents, &mut left, x, rest % 2 == 1) {
-                return false;
-            }
-            rest /= 2;
-        }
-        true
+        let room = BoxesLeft {
+            tree: self,
+            left: self.caps,
+        };
+        takes_chosen(room, frames, places)
     }
 }
 
-// Whether x can be added to the frames before it, where it is chosen at all. `left` is how many more frames each box may
-// have: a chosen frame takes one from each box on its way up.
-fn takes(parents: &[u8], left: &mut [u8], x: &Frame, chosen: bool) -> bool
-    requires { (length left.old ≡ 96) × (Parents parents.now) }
-    ensures { (s : List FrameOf) → laminar (λ y. y.lane) parents.now left.old (if chosen then x.now ∷ s else s) ≡ (result && laminar (λ y. y.lane) parents.now left.new s) }
-{
-    if !chosen {
-        return true;
-    }
-    if x.lane >= LANES {
-        return false;
-    }
-    let mut b = x.lane as usize;
-    while b < BOXES {
-        if left[b] == 0 {
+// How many more frames each box may have. A frame takes one from each box on its way up.
+#[derive(Drop)]
+struct BoxesLeft<'a> {
+    tree: &'a LaminarMatroid,
+    left: [u8; 96],
+    ghost count: { length left ≡ 96 },
+}
+
+impl<'a> Room for BoxesLeft<'a> {
+    ghost admits = { λ room. laminar (λ x. x.lane) room.tree.now.parents room.left };
+
+    fn takes(&mut self, x: &Frame) -> bool {
+        if x.lane >= LANES {
             return false;
         }
-        left[b] -= 1;
-        b = parents[b] as usize;
+        let mut b = x.lane as usize;
+        while b < BOXES {
+            if self.left[b] == 0 {
+                return false;
+            }
+            self.left[b] -= 1;
+            b = self.tree.parents[b] as usize;
+        }
+        true
     }
-    true
+
+    ghost nothing = { λ room. (laminar_matroid same-frames (λ x. x.lane) room.tree.now.parents room.left (parents_from room.tree.now.parents room.tree.now.paired room.tree.now.tree)).nothing };
 }

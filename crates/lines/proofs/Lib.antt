@@ -1,3 +1,3 @@
-mod KeyBytes
+mod InCommon
 mod Numbers
 mod Lined

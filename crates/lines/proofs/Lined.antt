@@ -1,24 +1,25 @@
 -- A line of a text that was read step by step: the key, the line feed, the value.
-use Rattle.std.proofs.Common.{◌≡◌, ℕ, ◌+◌, ◌<◌, ◌≤◌, min, true, eqb, List, length, take, drop, Ok, Err, Result, sym, ap, ◌∙◌, subst, inl, inr, arith, length-drop, length-take}
+use Rattle.std.proofs.Common.{◌≡◌, ℕ, ◌+◌, ◌<◌, ◌≤◌, min, true, false, eqb, List, length, take, drop, Some, None, Ok, Err, Option, Result, MatchOption, MatchBool, refl, sym, ap, ◌∙◌, subst, ⊎_elim, arith, length-drop, length-take, nat_le}
+use Rattle.std.proofs.lemmas.Bool.{MatchBool-at_true, MatchBool-at_false, le-leb, lt-leb, cases_lt}
 use Rattle.std.proofs.lemmas.List.Prefix.{front_fits}
 use Rattle.std.proofs.lemmas.List.{drop-drop, length-take-le}
 use Rattle.std.specs.List.{common_prefix_len}
 use Rattle.spots.specs.Faults.{spot}
 use Rattle.records.specs.Format.{key_bytes, longest, highest}
 use Rattle.records.specs.Of.{key_of, digits_of, behind}
-use Rattle.lines.specs.Lines.{Taken, Judged, Passed, LineRead, LineMeans}
-use Rattle.records.specs.Reading.{amiss, bad_form, over, due, line_of, key_amiss, end_amiss, before_feed, form_of, judged, read_value, read_line}
+use Rattle.lines.specs.Lines.{Numbered, Taken, Judged, PassedAs, LineRead, LineMeans}
+use Rattle.records.specs.Reading.{amiss, bad_form, over, due, line_of, key_amiss, end_amiss, before_feed, number_in, base_of, form_of, judged, read_value, read_line}
 use Rattle.spots.specs.declared.fault.LineFault.{LineFault}
+use Rattle.spots.specs.declared.fault.LineFault.TheVariants.{BadForm, Over}
+use Rattle.spots.specs.declared.fault.Spot.{Spot}
 use Rattle.records.specs.declared.key.Key.{Key}
 use Rattle.records.specs.declared.key.Key.TheVariants.{Number, Marks, Look, Lane, Tail, Head, Side}
 use Rattle.records.specs.declared.line.Line.{Line}
 use Rattle.records.proofs.Keys.{front_common}
+use Rattle.records.proofs.Results.{apart}
 use Rattle.records.proofs.Feeds.{feed_splits}
 use Rattle.records.proofs.Roundtrip.{line_shown, read_line_shown}
 use Rattle.records.proofs.LineCases.{no_key, key_there, no_end, end_there, no_form, too_high, all_well}
-
-apart : {X Y : Type 0} (r : Result X Y) (x : X) (y : Y) → r ≡ Ok x → r ≡ Err y → ⊥
-apart r x y p q = let z : ◌≡◌ {A = ℕ} 0 1 = cc in omega arith
 
 pub key_some : (k : Key) → 0 < length (key_bytes k)
 key_some Number = omega arith
@@ -82,37 +83,62 @@ module _ (k : Key) (text : List ℕ) (at n : ℕ) (s rest : List ℕ) (from : s 
   reads_as : read_line k (drop at text) ≡ judged (due k) (take n rest) (drop (n + 1) rest)
   reads_as = ap (read_line k) (sym from) ∙ line_judged k s rest there after n fed in_window
 
-  line_passed : (digits_of l).formed ≡ true → (digits_of l).number ≤ highest (key_of l) → Passed k text at l
-  line_passed good low =
-      let good' : form_of k (take n rest) ≡ true = sym t.formed ∙ good in
-      let e = t.number good in
-      let low' : (digits_of l).number ≤ highest k = subst (λ (k : Key). (digits_of l).number ≤ highest k) t.kind low in
+  -- the number of the value, and its form
+  written : (v : ℕ) → (digits_of l).number ≡ Some v → (form_of k (take n rest) ≡ true) × (v ≡ number_in (base_of k) (take n rest))
+  written v e = subst (λ (o : Option ℕ). Numbered (form_of k (take n rest)) (base_of k) (take n rest) o) e t.number
+
+  unwritten : (digits_of l).number ≡ None → form_of k (take n rest) ≡ false
+  unwritten e = subst (λ (o : Option ℕ). Numbered (form_of k (take n rest)) (base_of k) (take n rest) o) e t.number
+
+  line_passed : (v : ℕ) → (digits_of l).number ≡ Some v → v ≤ highest k → PassedAs k text at v l
+  line_passed v number low =
+      let good = written v number in
       let split = front_common (key_bytes k) s there in
       let window = feed_splits (longest k + 1) rest (subst (λ (m : ℕ). m < length (take (longest k + 1) rest)) fed in_window) in
       let g = goes_on in
       let b = t.bytes in
-      let w = all_well (due k) (take n rest) (drop (n + 1) rest) good' (subst (λ (m : ℕ). m ≤ highest k) e low') in
+      let e = good.1 in
+      let w = all_well (due k) (take n rest) (drop (n + 1) rest) good.0 (subst (λ (m : ℕ). m ≤ highest k) e low) in
       let ra = reads_as in
       record {
         kind = t.kind;
         at = t.at;
         shows = cc;
-        formed = good;
-        range = low';
+        number = number;
+        range = low;
         reads = cc;
         within = omega (arith, behind_is, value_place k s rest there after text at from, (feed_within k rest n in_window).1);
       }
 
-  pub line_read : (rec start : ℕ) (r : Result Line LineFault) → Judged l (spot rec (line_of k) (at + length (key_bytes k))) r → LineRead k text at rec start r
-  line_read rec start (Ok m) p = subst (λ (x : Line). Passed k text at x) (sym p.0) (line_passed p.1 p.2)
-  line_read rec start (Err f) (inl p) =
-      (amiss bad_form (length (key_bytes k)), reads_as ∙ no_form (due k) (take n rest) (drop (n + 1) rest) (sym t.formed ∙ p.0), p.1)
-  line_read rec start (Err f) (inr p) =
-      let high : highest k < (digits_of l).number = subst (λ (k : Key). highest k < (digits_of l).number) t.kind p.1 in
-      (amiss over (length (key_bytes k)), reads_as ∙ too_high (due k) (take n rest) (drop (n + 1) rest) (sym t.formed ∙ p.0) (subst (λ (m : ℕ). highest k < m) (t.number p.0) high), p.2)
+  module _ (rec start : ℕ) (r : Result Line LineFault) where
+    abbrev spot_here : Spot
+    spot_here = spot rec (line_of k) (at + length (key_bytes k))
+
+    line_ranged : (v : ℕ) → (digits_of l).number ≡ Some v → MatchBool (nat_le v (highest (key_of l))) (r ≡ Ok l) (r ≡ Err (Over spot_here)) → LineRead k text at rec start r
+    line_ranged v number j =
+        let kind = ap highest t.kind in
+        ⊎_elim
+        (λ (h : highest k < v).
+        let e = MatchBool-at_false _ _ (lt-leb v (highest (key_of l)) (omega (arith, kind, h))) j in
+        let good = written v number in
+        subst (λ r. LineRead k text at rec start r) (sym e) (amiss over (length (key_bytes k)), reads_as ∙ too_high (due k) (take n rest) (drop (n + 1) rest) good.0 (subst (λ (m : ℕ). highest k < m) good.1 h), refl))
+        (λ (h : v ≤ highest k).
+        let e = MatchBool-at_true _ _ (le-leb v (highest (key_of l)) (omega (arith, kind, h))) j in
+        subst (λ r. LineRead k text at rec start r) (sym e) (v, line_passed v number h))
+        (cases_lt (highest k) v)
+
+    line_numbered : (o : Option ℕ) → (digits_of l).number ≡ o → MatchOption o (r ≡ Err (BadForm spot_here)) (λ v. MatchBool (nat_le v (highest (key_of l))) (r ≡ Ok l) (r ≡ Err (Over spot_here))) → LineRead k text at rec start r
+    line_numbered None number e =
+        subst (λ r. LineRead k text at rec start r) (sym e) (amiss bad_form (length (key_bytes k)), reads_as ∙ no_form (due k) (take n rest) (drop (n + 1) rest) (unwritten number), refl)
+    line_numbered (Some v) number j = line_ranged v number j
+
+    pub line_read : Judged l spot_here r → LineRead k text at rec start r
+    line_read j = line_numbered (digits_of l).number refl j
 
 -- a line was read just where it is printed so
 pub line_means : (k : Key) (text : List ℕ) (at number start : ℕ) (r : Result Line LineFault) → LineRead k text at number start r → LineMeans k text at r
-line_means k text at number start (Ok l) p = line_shown k (drop at text) (digits_of l).number (drop (behind (digits_of l)) text) p.reads
+line_means k text at number start (Ok l) p =
+    let h = line_shown k (drop at text) p.0 (drop (behind (digits_of l)) text) p.1.reads in
+    (p.0, p.1.number, h.0, h.1)
 line_means k text at number start (Err f) p =
     λ v rest low e. apart (read_line k (drop at text)) (v, rest) p.0 (ap (read_line k) e ∙ read_line_shown k v rest low) p.1

@@ -1,5 +1,5 @@
 -- What is told of one line. Assumes nothing.
-use Rattle.std.specs.Prelude.{◌≡◌, ℕ, ◌+◌, ◌<◌, ◌≤◌, Bool, true, false, ◌⊎◌, List, ◌∷◌, ◌++◌, length, drop, Ok, Err, Option, Result, ◌≢◌, nat_eq}
+use Rattle.std.specs.Prelude.{◌≡◌, ℕ, ◌+◌, ◌<◌, ◌≤◌, Bool, true, false, List, ◌∷◌, ◌++◌, length, drop, Ok, Err, Some, Option, Result, MatchBool, ◌≢◌, nat_eq, nat_le}
 use Rattle.std.specs.Borrow.{Bor}
 use Rattle.std.specs.Option as options
 use Rattle.std.specs.Result as results
@@ -26,35 +26,40 @@ pub record Taken (k : Key) (ds : List ℕ) (place : ℕ) (l : Line) : Type 0 whe
   pub kind : key_of l ≡ k
   pub at : (digits_of l).at ≡ place
   pub bytes : (digits_of l).bytes.now ≡ ds
-  pub formed : (digits_of l).formed ≡ form_of k ds
-  pub number : (digits_of l).formed ≡ true → (digits_of l).number ≡ number_in (base_of k) ds
+  pub number : Numbered (form_of k ds) (base_of k) ds (digits_of l).number
 
 -- r judges the value of a line, which stands at a spot: its form, and then its range
 abbrev pub Judged : Line → Spot → Result Line LineFault → Type 0
 Judged l at r =
-    results.MatchResult r (λ m. (m ≡ l) × ((digits_of l).formed ≡ true) × ((digits_of l).number ≤ highest (key_of l))) (λ f. (((digits_of l).formed ≡ false) × (f ≡ BadForm at)) ⊎ (((digits_of l).formed ≡ true) × (highest (key_of l) < (digits_of l).number) × (f ≡ Over at)))
+    options.MatchOption (digits_of l).number (r ≡ Err (BadForm at)) (λ v. MatchBool (nat_le v (highest (key_of l))) (r ≡ Ok l) (r ≡ Err (Over at)))
 
--- the line of k that starts at a byte of a text was read: its bytes are a part of the text, and the text goes on behind it
-pub record Passed (k : Key) (text : List ℕ) (start : ℕ) (l : Line) : Type 0 where
+-- the line of k that starts at a byte of a text was read, with the value v: its bytes are a part of the text, and the
+-- text goes on behind it
+pub record PassedAs (k : Key) (text : List ℕ) (start v : ℕ) (l : Line) : Type 0 where
   pub kind : key_of l ≡ k
   pub at : (digits_of l).at ≡ start + length (key_bytes k)
   pub shows : drop start text ≡ key_bytes k ++ ((digits_of l).bytes.now ++ (10 ∷ drop (behind (digits_of l)) text))
-  pub formed : (digits_of l).formed ≡ true
-  pub range : (digits_of l).number ≤ highest k
-  pub reads : read_line k (drop start text) ≡ Ok ((digits_of l).number, drop (behind (digits_of l)) text)
+  pub number : (digits_of l).number ≡ Some v
+  pub range : v ≤ highest k
+  pub reads : read_line k (drop start text) ≡ Ok (v, drop (behind (digits_of l)) text)
   pub within : behind (digits_of l) ≤ length text
+
+-- the same, whatever the value
+abbrev pub Passed : Key → List ℕ → ℕ → Line → Type 0
+Passed k text start l = (v : ℕ) × PassedAs k text start v l
 
 -- no line of k starts at a byte of a text: f is its fault, in the record of that number and start
 abbrev pub Unread : Key → List ℕ → ℕ → ℕ → ℕ → LineFault → Type 0
 Unread k text at number start f = (a : Amiss) × (read_line k (drop at text) ≡ Err a) × (f ≡ line_fault_at number start k at a)
 
+-- r answers the reading of the line of k that starts at byte `at` of a text, in the record of that number and start
 abbrev pub LineRead : Key → List ℕ → ℕ → ℕ → ℕ → Result Line LineFault → Type 0
 LineRead k text at number start r = results.MatchResult r (λ l. Passed k text at l) (λ f. Unread k text at number start f)
 
 -- the same in the format's words: the text goes on with the line that is printed of the value, or with no such line
 abbrev pub LineMeans : Key → List ℕ → ℕ → Result Line LineFault → Type 0
 LineMeans k text at r =
-    results.MatchResult r (λ l. ((digits_of l).number ≤ highest k) × (drop at text ≡ shown_line k (digits_of l).number ++ drop (behind (digits_of l)) text)) (λ _. (v : ℕ) (rest : List ℕ) → v ≤ highest k → drop at text ≢ shown_line k v ++ rest)
+    results.MatchResult r (λ l. (v : ℕ) × ((digits_of l).number ≡ Some v) × (v ≤ highest k) × (drop at text ≡ shown_line k v ++ drop (behind (digits_of l)) text)) (λ _. (v : ℕ) (rest : List ℕ) → v ≤ highest k → drop at text ≢ shown_line k v ++ rest)
 
 -- the line of k that starts at a byte of a text has the value v, and the text goes on at another byte
 pub record Valued (k : Key) (text : List ℕ) (at v next : ℕ) : Type 0 where

@@ -1,48 +1,57 @@
 ghost use Rattle.std.specs.Prelude.{◌≡◌};
+ghost use Rattle.spots.specs.Faults.{spot as spot_at};
 ghost use Rattle.records.specs.Format.{key_bytes, longest};
 ghost use Rattle.records.specs.Reading.{line_of};
 
+use crate::place::Place;
 use records::key::Key;
+use spots::fault::Spot;
 
-// The bytes before the value.
-pub(crate) fn bytes_of(key: Key) -> &'static [u8]
-    ensures { result.now ≡ key_bytes key }
-{
-    match key {
-        Key::Number => b"frame=",
-        Key::Marks => b"marks=",
-        Key::Look => b"look=",
-        Key::Lane => b"lane=",
-        Key::Tail => b"tail=",
-        Key::Head => b"head=",
-        Key::Side => b"side=",
-    }
+// A line that is due: its key, the byte where it starts, and the record that it is in.
+#[derive(Clone, Copy)]
+pub(crate) struct Due {
+    pub(crate) key: Key,
+    pub(crate) at: usize,
+    pub(crate) place: Place,
 }
 
-// How many bytes the longest value has.
-pub(crate) fn longest_of(key: Key) -> usize
-    ensures { result ≡ longest key }
-{
-    match key {
-        Key::Number => 10,
-        Key::Marks => 16,
-        Key::Look | Key::Tail | Key::Head => 3,
-        Key::Lane => 2,
-        Key::Side => 1,
+impl Due {
+    // The bytes before the value.
+    pub(crate) fn key_bytes(self) -> &'static [u8]
+        ensures { result.now ≡ key_bytes self.key }
+    {
+        match self.key {
+            Key::Number => b"frame=",
+            Key::Marks => b"marks=",
+            Key::Look => b"look=",
+            Key::Lane => b"lane=",
+            Key::Tail => b"tail=",
+            Key::Head => b"head=",
+            Key::Side => b"side=",
+        }
     }
-}
 
-// Which line of a record has this key, from 1.
-pub(crate) fn line_of(key: Key) -> usize
-    ensures { result ≡ line_of key }
-{
-    match key {
-        Key::Number => 1,
-        Key::Marks => 2,
-        Key::Look => 3,
-        Key::Lane => 4,
-        Key::Tail => 5,
-        Key::Head => 6,
-        Key::Side => 7,
+    // How many bytes the longest value has.
+    pub(crate) fn longest(self) -> usize
+        ensures { result ≡ longest self.key }
+    {
+        match self.key {
+            Key::Number => 10,
+            Key::Marks => 16,
+            Key::Look | Key::Tail | Key::Head => 3,
+            Key::Lane => 2,
+            Key::Side => 1,
+        }
+    }
+
+    // A byte of the line.
+    pub(crate) fn spot(self, byte: usize) -> Spot
+        ensures { result ≡ spot_at self.place.«record» (line_of self.key) byte }
+    {
+        Spot {
+            record: self.place.record,
+            line: self.key as usize,
+            byte,
+        }
     }
 }

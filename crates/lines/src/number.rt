@@ -1,4 +1,4 @@
-ghost use Rattle.std.specs.Prelude.{◌≡◌, ℕ, ◌≤◌, length};
+ghost use Rattle.std.specs.Prelude.{◌≡◌, ℕ, ◌≤◌, ◌<◌, length, MatchOption};
 ghost use Rattle.lines.specs.Lines.{Numbered};
 ghost use Rattle.records.specs.Reading.{digit, digits_in, shortest, sixteen};
 
@@ -32,22 +32,21 @@ fn number_in(base: u64, bytes: &[u8]) -> Option<u64>
 {
     let mut n = 0;
     for b in bytes {
-        let d = digit_of(*b);
-        if d >= base {
-            return None;
-        }
+        let d = digit_of(*b, base)?;
         n = n * base + d;
     }
     Some(n)
 }
 
-// What a byte writes as a digit, 16 where it is none.
-fn digit_of(b: u8) -> u64
-    ensures { result ≡ digit b }
+// What a byte writes as a digit of a base.
+fn digit_of(b: u8, base: u64) -> Option<u64>
+    requires { base ≤ 16 }
+    ensures { MatchOption result (base ≤ digit b) (λ d. (d ≡ digit b) × (d < base)) }
 {
-    match b {
-        b'0'..=b'9' => (b - b'0') as u64,
-        b'a'..=b'f' => (b - b'a' + 10) as u64,
-        _ => 16,
-    }
+    let d = match b {
+        b'0'..=b'9' => b - b'0',
+        b'a'..=b'f' => b - b'a' + 10,
+        _ => return None,
+    };
+    Some(u64::from(d)).filter(|d| *d < base)
 }

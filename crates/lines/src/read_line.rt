@@ -1,9 +1,8 @@
 ghost use Rattle.std.specs.Prelude.{◌≡◌, ℕ, drop};
 ghost use Rattle.lines.specs.Lines.{LineRead, LineMeans};
 
-use crate::due::longest_of;
+use crate::due::Due;
 use crate::key_bytes::after_key;
-use crate::line_fault::{end_fault, key_fault, spot_of};
 use crate::place::Place;
 use crate::value::{judge, taken};
 use records::key::Key;
@@ -21,21 +20,21 @@ pub fn read_line<'a>(
     ensures reads { LineRead key text.now at place.«record» place.start result }
     ensures means { LineMeans key text.now at result }
 {
+    let due = Due { key, at, place };
     let s = text_from(text, at);
     let Some(rest) = after_key(key, s) else {
-        return Err(key_fault(key, s, at, place));
+        return Err(due.key_fault(s));
     };
-    let Some(n) = line_feed(rest, longest_of(key)) else {
-        return Err(end_fault(key, rest, at, place));
+    let Some(n) = line_feed(rest, due.longest()) else {
+        return Err(due.end_fault(rest));
     };
     let value = text.len() - rest.len();
-    let line = taken(key, &rest[0..n], value);
-    judge(line, spot_of(key, place, value))
+    judge(taken(key, &rest[..n], value), due.spot(value))
 }
 
 // The text from byte `at` on.
 fn text_from(text: &[u8], at: usize) -> &[u8]
     ensures { result.now ≡ drop at text.now }
 {
-    &text[at.min(text.len())..]
+    text.get(at..).unwrap_or(&[])
 }

@@ -12,16 +12,11 @@ pub(crate) fn taken<'a>(key: Key, bytes: &'a [u8], at: usize) -> Line<'a>
     requires { length bytes.now ≤ 16 }
     ensures { Taken key bytes.now at result }
 {
-    let read = match key {
+    let number = match key {
         Key::Marks => hexadecimal(bytes),
         _ => decimal(bytes),
     };
-    let digits = Digits {
-        bytes,
-        at,
-        formed: read.is_some(),
-        number: read.unwrap_or(0),
-    };
+    let digits = Digits { bytes, at, number };
     match key {
         Key::Number => Line::Number(digits),
         Key::Marks => Line::Marks(digits),
@@ -37,15 +32,14 @@ pub(crate) fn taken<'a>(key: Key, bytes: &'a [u8], at: usize) -> Line<'a>
 pub(crate) fn judge<'a>(line: Line<'a>, spot: Spot) -> Result<Line<'a>, LineFault>
     ensures { Judged line.entry spot result }
 {
-    let digits = line.digits();
+    let number = line.digits().number;
+    let over = Err(LineFault::Over(spot));
     match line {
-        _ if !digits.formed => Err(LineFault::BadForm(spot)),
-        Line::Number(_) if digits.number > 4_294_967_295 => Err(LineFault::Over(spot)),
-        Line::Look(_) | Line::Tail(_) | Line::Head(_) if digits.number > 255 => Err(LineFault::Over(
-            spot,
-        )),
-        Line::Lane(_) if digits.number > 63 => Err(LineFault::Over(spot)),
-        Line::Side(_) if digits.number > 1 => Err(LineFault::Over(spot)),
+        _ if number.is_none() => Err(LineFault::BadForm(spot)),
+        Line::Number(_) if number > Some(4_294_967_295) => over,
+        Line::Look(_) | Line::Tail(_) | Line::Head(_) if number > Some(255) => over,
+        Line::Lane(_) if number > Some(63) => over,
+        Line::Side(_) if number > Some(1) => over,
         _ => Ok(line),
     }
 }

@@ -1,4 +1,6 @@
 #![tactic(auto)]
 
+pub mod count;
 pub mod matroid;
 pub mod partition;
+pub mod room;

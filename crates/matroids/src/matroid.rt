@@ -6,7 +6,11 @@ ghost use Rattle.matroids.specs.Chosen.{chosen};
 
 use frames::frame::Frame;
 
-// Which frames may stand together: the independent lists of a matroid.
+// The highest cap that a setting may give: the most frames that are ever kept.
+pub const HIGHEST_CAP: u32 = 48;
+
+// Which frames may stand together: the independent lists of a matroid. `new` and `set` are each kind's own, since the
+// settings differ from kind to kind in number and type.
 pub trait Matroid {
     ghost admits: { Self → List FrameOf → Bool };
 

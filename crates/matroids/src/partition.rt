@@ -1,17 +1,14 @@
-ghost use Rattle.std.specs.Prelude.{◌≡◌, ℕ, ◌≤◌, ◌&&◌, List, ◌∷◌, length, IfOk, if◌then◌else◌, MatchResult, slice_index};
+ghost use Rattle.std.specs.Prelude.{◌≡◌, ℕ, ◌≤◌, length, IfOk, MatchResult, slice_index};
 ghost use Rattle.std.specs.Result.{result_err};
-ghost use Rattle.std.specs.List.{AllByRecursion};
 ghost use Rattle.kinds.specs.Matroids.{partition};
 ghost use Rattle.kinds.proofs.Lanes.{partition_matroid};
-ghost use Rattle.frames.specs.declared.frame.Frame.{Frame as FrameOf};
 ghost use Rattle.frames.specs.Settings.{numbers_fault};
 ghost use Rattle.frames.proofs.Equality.{same-frames};
 
-use crate::matroid::Matroid;
+use crate::matroid::{HIGHEST_CAP, Matroid};
+use crate::room::{Room, takes_chosen};
 use frames::frame::Frame;
-use frames::setting::{SettingFault, check_numbers};
-
-const HIGHEST_CAP: u32 = 48;
+use frames::setting::{SettingFault, check_numbers, low_bytes};
 
 // Partition matroid: no lane has more frames than its cap, and a lane above 63 has none.
 #[derive(Drop)]
@@ -29,7 +26,7 @@ impl PartitionMatroid {
     {
         check_numbers(caps, 64, HIGHEST_CAP)?;
         Ok(PartitionMatroid {
-            caps: narrowed(caps),
+            caps: low_bytes(caps),
         })
     }
 
@@ -49,43 +46,28 @@ impl Matroid for PartitionMatroid {
     ghost laws = { λ m. partition_matroid same-frames (λ x. x.lane) m.caps };
 
     fn independent(&self, frames: &[Frame], places: u64) -> bool {
-        let mut left = self.caps;
-        let mut rest = places;
-        for x in frames {
-            if !takes(&mut left, x, rest % 2 == 1) {
-                return false;
-            }
-            rest /= 2;
+        takes_chosen(LanesLeft { left: self.caps }, frames, places)
+    }
+}
+
+// How many more frames each lane may have. A frame takes one from its lane.
+#[derive(Drop)]
+struct LanesLeft {
+    left: [u8; 64],
+    ghost count: { length left ≡ 64 },
+}
+
+impl Room for LanesLeft {
+    ghost admits = { λ room. partition (λ x. x.lane) room.left };
+
+    fn takes(&mut self, x: &Frame) -> bool {
+        let lane = x.lane as usize;
+        if lane >= 64 || self.left[lane] == 0 {
+            return false;
         }
+        self.left[lane] -= 1;
         true
     }
-}
 
-// The caps, each in a byte.
-fn narrowed(caps: &[u32]) -> [u8; 64]
-    requires { (length caps.now ≡ 64) × (AllByRecursion (λ c. c ≤ 48) caps.now) }
-    ensures { result ≡ caps.now }
-{
-    let mut bytes = [0; 64];
-    for (i, c) in caps.iter().enumerate() {
-        bytes[i] = *c as u8;
-    }
-    bytes
-}
-
-// Whether x can be added to the frames before it, where it is chosen at all. `left` is how many more frames each lane
-// may have: a chosen frame takes one from its lane.
-fn takes(left: &mut [u8], x: &Frame, chosen: bool) -> bool
-    requires { length left.old ≡ 64 }
-    ensures { (s : List FrameOf) → partition (λ y. y.lane) left.old (if chosen then x.now ∷ s else s) ≡ (result && partition (λ y. y.lane) left.new s) }
-{
-    if !chosen {
-        return true;
-    }
-    let lane = x.lane as usize;
-    if lane >= 64 || left[lane] == 0 {
-        return false;
-    }
-    left[lane] -= 1;
-    true
+    ghost nothing = { λ room. (partition_matroid same-frames (λ x. x.lane) room.left).nothing };
 }

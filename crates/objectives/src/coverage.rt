@@ -1,6 +1,6 @@
-ghost use Rattle.std.specs.Prelude.{◌≡◌, ℕ, ◌<◌, ◌≤◌, length, IfOk, if◌then◌else◌, MatchResult, slice_index};
+ghost use Rattle.std.specs.Prelude.{◌≡◌, ℕ, ◌≤◌, length, IfOk, MatchResult, slice_index};
 ghost use Rattle.std.specs.Result.{result_err};
-ghost use Rattle.kinds.specs.Objectives.{coverage, uncovered, shows};
+ghost use Rattle.kinds.specs.Objectives.{coverage, uncovered};
 ghost use Rattle.frames.specs.Settings.{numbers_fault};
 ghost use Rattle.kinds.proofs.Covered.{coverage_keeps, uncovered_keeps};
 
@@ -56,7 +56,9 @@ impl Objective for Coverage {
         let shown = x.marks & !self.covered;
         let mut gain = 0;
         for (i, weight) in self.weights.iter().enumerate() {
-            gain += weight_if_shown(shown, i, *weight);
+            if (shown >> i) % 2 == 1 {
+                gain += *weight;
+            }
         }
         gain
     }
@@ -68,12 +70,4 @@ impl Objective for Coverage {
     fn reset(&mut self) {
         self.covered = 0;
     }
-}
-
-// The weight of class i, if it is among those shown.
-fn weight_if_shown(shown: u64, i: usize, weight: u32) -> u32
-    requires { i < 64 }
-    ensures { result ≡ (if shows shown i then weight else 0) }
-{
-    if (shown >> i) % 2 == 1 { weight } else { 0 }
 }

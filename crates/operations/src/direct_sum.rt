@@ -1,4 +1,4 @@
-ghost use Rattle.std.specs.Prelude.{◌≡◌, ◌^◌, ◌<◌, take, if◌then◌else◌, nat_eq};
+ghost use Rattle.std.specs.Prelude.{◌≡◌, take, nat_eq};
 ghost use Rattle.kinds.specs.Matroids.{direct_sum};
 ghost use Rattle.kinds.proofs.Parts.{direct_sum_matroid};
 ghost use Rattle.frames.proofs.Equality.{same-frames};
@@ -30,17 +30,10 @@ impl<Q: Matroid, R: Matroid> Matroid for DirectSum<Q, R> {
 fn first_side(frames: &[Frame]) -> u64
     ensures { result ≡ mask_of (λ x. nat_eq x.side 0) (take 64 frames.now) }
 {
+    let first = &frames[..frames.len().min(64)];
     let mut mask = 0;
-    for i in 0..frames.len().min(64) {
-        mask |= place_if(frames[i].side == 0, i);
+    for (i, x) in first.iter().enumerate() {
+        mask |= u64::from(x.side == 0) << i;
     }
     mask
-}
-
-// Place i as a set, if it is wanted.
-fn place_if(wanted: bool, i: usize) -> u64
-    requires { i < 64 }
-    ensures { result ≡ (if wanted then 2 ^ i else 0) }
-{
-    if wanted { 1 << i } else { 0 }
 }

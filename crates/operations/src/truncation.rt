@@ -1,16 +1,14 @@
-ghost use Rattle.std.specs.Prelude.{◌≡◌, ◌-◌, ◌^◌, ◌≤◌, min, [], ◌∷◌, length, IfOk, MatchResult};
+ghost use Rattle.std.specs.Prelude.{◌≡◌, ◌≤◌, [], ◌∷◌, IfOk, MatchResult};
 ghost use Rattle.std.specs.Result.{result_err};
 ghost use Rattle.kinds.specs.Matroids.{truncated};
 ghost use Rattle.kinds.proofs.Boxes.{truncated_matroid};
 ghost use Rattle.frames.specs.Settings.{numbers_fault};
 ghost use Rattle.frames.proofs.Equality.{same-frames};
-ghost use Rattle.matroids.specs.Chosen.{chosen};
 
 use frames::frame::Frame;
 use frames::setting::{SettingFault, check_numbers};
-use matroids::matroid::Matroid;
-
-const HIGHEST_LIMIT: u32 = 48;
+use matroids::count::chosen_count;
+use matroids::matroid::{HIGHEST_CAP, Matroid};
 
 // Truncation of a matroid: independent below, and at most `limit` frames.
 #[derive(Drop)]
@@ -28,7 +26,7 @@ impl<R> Truncation<R> {
         ensures fault { result_err result ≡ numbers_fault 1 48 (k ∷ []) }
         ensures accepted { IfOk result (λ t. (t.limit ≡ k) × (t.below ≡ below)) }
     {
-        check_numbers(&[k], 1, HIGHEST_LIMIT)?;
+        check_numbers(&[k], 1, HIGHEST_CAP)?;
         Ok(Truncation { limit: k, below })
     }
 
@@ -37,7 +35,7 @@ impl<R> Truncation<R> {
         ensures fault { result_err result ≡ numbers_fault 1 48 (k ∷ []) }
         ensures after { MatchResult result (λ _. (self.new.limit ≡ k) × (self.new.below ≡ self.old.below)) (λ _. self.new ≡ self.old) }
     {
-        check_numbers(&[k], 1, HIGHEST_LIMIT)?;
+        check_numbers(&[k], 1, HIGHEST_CAP)?;
         self.limit = k;
         Ok(())
     }
@@ -49,20 +47,6 @@ impl<R: Matroid> Matroid for Truncation<R> {
     ghost laws = { λ t. truncated_matroid same-frames (R.Matroid.laws t.below) t.limit };
 
     fn independent(&self, frames: &[Frame], places: u64) -> bool {
-        count(frames, places) <= self.limit && self.below.independent(frames, places)
+        chosen_count(frames, places) <= self.limit && self.below.independent(frames, places)
     }
-}
-
-// How many frames the set chooses.
-fn count(frames: &[Frame], places: u64) -> u32
-    ensures { result ≡ length (chosen frames.now places) }
-{
-    (places & places_below(frames.len())).count_ones()
-}
-
-// The set of the places below n.
-fn places_below(n: usize) -> u64
-    ensures { result ≡ 2 ^ min n 64 - 1 }
-{
-    if n >= 64 { u64::MAX } else { (1 << n) - 1 }
 }

@@ -4,6 +4,7 @@ ghost use Rattle.outside_laws.specs.Counts.{uniform};
 ghost use Rattle.outside_laws.proofs.Counts.{uniform_matroid};
 
 use frames::frame::Frame;
+use matroids::count::chosen_count;
 use matroids::matroid::Matroid;
 
 // At most so many frames, whichever they are.
@@ -26,12 +27,6 @@ impl Matroid for AtMost {
     ghost laws = { λ m. uniform_matroid same-frames m.most };
 
     fn independent(&self, frames: &[Frame], places: u64) -> bool {
-        let mut count = 0;
-        let mut rest = places;
-        for _x in frames {
-            count += (rest % 2) as usize;
-            rest /= 2;
-        }
-        count <= self.most
+        chosen_count(frames, places) as usize <= self.most
     }
 }

@@ -33,7 +33,7 @@ impl Objective for FrameCount {
     ghost laws = { λ w. record { whole = count_lawful w.cap w.high; left = count_lawful w.left w.rest } };
 
     fn gain(&self, x: &Frame) -> u32 {
-        if self.left > 0 { 1 } else { 0 }
+        self.left.min(1)
     }
 
     fn add(&mut self, x: &Frame) {

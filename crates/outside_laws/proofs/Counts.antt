@@ -1,10 +1,9 @@
 -- The laws of the count up to a cap, and of the lists of at most so many frames. Assumes nothing.
-use Rattle.std.proofs.Common.{◌≡◌, ℕ, suc, ◌-◌, ◌≤◌, min, Bool, true, cond, leb, List, [], ◌∷◌, length, count_by, refl, arith}
-use Rattle.std.proofs.lemmas.List.Sums.{sum_by-cons}
+use Rattle.std.proofs.Common.{◌≡◌, ℕ, suc, ◌-◌, ◌≤◌, min, Bool, true, leb, List, [], ◌∷◌, length, arith}
 use Rattle.std.proofs.lemmas.Bool.{leb-true, le-leb}
 use Rattle.theory.specs.Bag.{Same}
 use Rattle.theory.specs.Laws.{Lawful, MatroidLaws}
-use Rattle.theory.proofs.Orders.{orderless_after, orderless_length, occurs_more}
+use Rattle.theory.proofs.Orders.{orderless_after, orderless_length, occurs_more, count_by_all}
 use Rattle.outside_laws.specs.Counts.{count_up_to, uniform}
 
 module _ {A : Type 0} where
@@ -21,10 +20,6 @@ module _ {A : Type 0} where
 
   pub count_added : (left : ℕ) (x : A) (s : List A) → count_up_to (left - 1) s ≡ count_up_to left (x ∷ s) - count_up_to left (x ∷ [])
   count_added left x s = omega arith
-
-  count_by_all : (s : List A) → count_by (λ x. true) s ≡ length s
-  count_by_all [] = refl
-  count_by_all (x ∷ s) = omega (arith, count_by_all s, sum_by-cons (λ (y : A). cond true 1 0) x s)
 
   pub uniform_matroid : {same : A → A → Bool} → Same same → (most : ℕ) → MatroidLaws same (uniform most)
   uniform_matroid eq most = record {

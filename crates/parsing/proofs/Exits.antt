@@ -11,11 +11,9 @@ use Rattle.faults.specs.declared.fault.RecordFault.{RecordFault}
 use Rattle.faults.specs.declared.fault.RecordFault.TheVariants.{Line}
 use Rattle.records.specs.declared.key.Key.{Key}
 use Rattle.records.proofs.RecordCases.{same-fault}
+use Rattle.records.proofs.Results.{apart}
 use Rattle.records.proofs.Roundtrip.{read_shown, record_shown}
 use Rattle.records.proofs.TextCases.{record_shortens}
-
-apart : {X Y : Type 0} (r : Result X Y) (x : X) (y : Y) → r ≡ Ok x → r ≡ Err y → ⊥
-apart r x y p q = let z : ◌≡◌ {A = ℕ} 0 1 = cc in omega arith
 
 -- a record was read just where it is printed so
 record_means : (text : List ℕ) (at number : ℕ) (r : Result (Frame × ℕ) RecordFault) → RecordRead text at number r → RecordMeans text at r

@@ -38,11 +38,6 @@ pub fn read_record(text: &[u8], at: usize, record: usize) -> Result<(Frame, usiz
 fn value_at(text: &[u8], at: usize, key: Key, place: Place) -> Result<(u64, usize), LineFault>
     ensures { ValueRead key text.now at place.«record» place.start result }
 {
-    match read_line(text, at, key, place) {
-        Ok(line) => {
-            let digits = line.digits();
-            Ok((digits.number, digits.at + digits.bytes.len() + 1))
-        }
-        Err(fault) => Err(fault),
-    }
+    let digits = read_line(text, at, key, place)?.digits();
+    Ok((digits.number.unwrap(), digits.at + digits.bytes.len() + 1))
 }

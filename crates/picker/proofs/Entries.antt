@@ -1,5 +1,5 @@
 -- Kept frames and their gains, as the code changes them. Assumes nothing.
-use Rattle.std.proofs.Common.{◌≡◌, ℕ, zero, suc, ◌+◌, ◌<◌, ◌≤◌, Bool, true, cond, ◌&&◌, ltb, leb, List, [], ◌∷◌, ◌++◌, map, length, get_or, set, refl, ap, ◌∙◌, arith}
+use Rattle.std.proofs.Common.{◌≡◌, ℕ, zero, suc, ◌+◌, ◌<◌, ◌≤◌, true, cond, ◌&&◌, ltb, leb, List, [], ◌∷◌, ◌++◌, map, length, get_or, set, refl, ap, ◌∙◌, arith}
 use Rattle.std.proofs.lemmas.List.{map_push, map-set, length-map, get_or-map}
 use Rattle.std.proofs.lemmas.List.Sums.{sum_by_push, sum_by-set, get_or-le-sum_by}
 use Rattle.std.proofs.lemmas.Bool.{le-leb, leb-true, lt-ltb, and_from, and_parts, cond-true}
@@ -34,11 +34,11 @@ as_pair : Entry → Frame × ℕ
 as_pair e = (e.frame, e.gain)
 
 module _ (t u : KeptTable) (x : Frame) (g : ℕ) where
-  pub held_push : (b : Bool) → b ≡ ltb (length (entries_of t)) 48 → length (held t) < 48 → entries_of u ≡ cond b (entries_of t ++ entry x g ∷ []) (entries_of t) → held u ≡ held t ++ ((x, g) ∷ [])
+  pub held_push : length (held t) < 48 → entries_of u ≡ cond (ltb (length (entries_of t)) 48) (entries_of t ++ entry x g ∷ []) (entries_of t) → held u ≡ held t ++ ((x, g) ∷ [])
   unfolding as_pair
-  held_push b e l h =
+  held_push l h =
       let few : length (entries_of t) < 48 = omega (arith, length-map (entries_of t) as_pair) in
-      ap (map as_pair) (h ∙ cond-true b _ _ (e ∙ lt-ltb _ _ few)) ∙ map_push as_pair (entries_of t) (entry x g)
+      ap (map as_pair) (h ∙ cond-true _ _ _ (lt-ltb _ _ few)) ∙ map_push as_pair (entries_of t) (entry x g)
 
   pub held-set : (p : ℕ) → entries_of u ≡ set (entries_of t) p (entry x g) → held u ≡ set (held t) p (x, g)
   unfolding as_pair

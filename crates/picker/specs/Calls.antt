@@ -1,5 +1,5 @@
 -- The calls made of a picker after its opening, and the frames that they bring. Assumes nothing.
-use Rattle.std.specs.Prelude.{ℕ, ◌-◌, cond, ◌||◌, List, [], ◌∷◌, ◌++◌, length, take, fold, ◌==◌, nat_le, nat_lt}
+use Rattle.std.specs.Prelude.{ℕ, ◌-◌, if◌then◌else◌, ◌||◌, List, [], ◌∷◌, ◌++◌, length, take, fold, ◌==◌, nat_le, nat_lt}
 use Rattle.frames.specs.declared.frame.Frame.{Frame}
 use Rattle.records.specs.Reading.{frames_in}
 
@@ -19,13 +19,13 @@ pub data Called : Type 0 where
 
 -- a frame is taken in unless its lane or its side is too high, or 1,000,000 are there
 abbrev pub arrive : List Frame → Frame → List Frame
-arrive xs x = cond (nat_lt 63 x.lane || nat_lt 1 x.side) xs (cond (length xs == 1000000) xs (xs ++ x ∷ []))
+arrive xs x = if nat_lt 63 x.lane || nat_lt 1 x.side then xs else (if length xs == 1000000 then xs else (xs ++ x ∷ []))
 
 -- what a call makes of the arrivals: a text brings the frames of its records, up to the first that cannot be read or
 -- taken in, unless it is too long; a clear empties them; a look-up or a print-out leaves them
 abbrev pub arrive_by : List Frame → Called → List Frame
 arrive_by xs (offering x) = arrive xs x
-arrive_by xs (reading t) = cond (nat_le (length t) 65536) (xs ++ take (1000000 - length xs) (frames_in t)) xs
+arrive_by xs (reading t) = if nat_le (length t) 65536 then xs ++ take (1000000 - length xs) (frames_in t) else xs
 arrive_by xs (looking i) = xs
 arrive_by xs counting = xs
 arrive_by xs printing = xs

@@ -8,6 +8,8 @@ use Rattle.kept.specs.Tables.{held}
 use Rattle.picker.specs.declared.picker.Picker.{Picker}
 use Rattle.picker.specs.Calls.{Called, arrivals}
 use Rattle.picker.specs.Offers.{Standing, After}
+use Rattle.objectives.specs.declared.objective.Objective.{Ghosts as Objective}
+use Rattle.matroids.specs.declared.matroid.Matroid.{Ghosts as Matroid}
 
 -- what is promised of the frames es, kept with their gains, and of how many were ever accepted, where the frames xs
 -- arrived: f says what a list is worth, adm which lists are independent, and n is the size
@@ -35,17 +37,17 @@ pub record Beside (f : List Frame → ℕ) (adm : List Frame → Bool) (n : ℕ)
 abbrev pub nothing : Standing
 nothing = record { kept = []; took = 0; seen = 0; tells = 0 }
 
-module _ {W R : Type 0} (value residual : W → List Frame → ℕ) (admits : R → List Frame → Bool) where
+module _ {W R : Type 0} (O : Objective W) (M : Matroid R) where
   -- p stands where the calls h lead from an opening
   abbrev pub Met : List Called → Picker W R → Type 0
-  Met h p = After residual admits (value p.objective) p.matroid p.size.n nothing (arrivals h) p
+  Met h p = After O M (O.value p.objective) p.matroid p.size.n nothing (arrivals h) p
 
   -- the promise, of a picker after the calls h
   abbrev pub Labelled : List Called → Picker W R → Type 0
-  Labelled h p = Label (value p.objective) (admits p.matroid) p.size.n (arrivals h) (held p.table) p.took
+  Labelled h p = Label (O.value p.objective) (M.admits p.matroid) p.size.n (arrivals h) (held p.table) p.took
 
   abbrev pub Bounded : List Called → Picker W R → Type 0
-  Bounded h p = Beside (value p.objective) (admits p.matroid) p.size.n (arrivals h) (held p.table) p.took p.gain p.told
+  Bounded h p = Beside (O.value p.objective) (M.admits p.matroid) p.size.n (arrivals h) (held p.table) p.took p.gain p.told
 
   -- a call c that made q of p goes on from any history to that history with the call
   abbrev pub Carries : Called → Picker W R → Picker W R → Type 0

@@ -1,5 +1,5 @@
 -- What an offer answers, and what it makes of a picker. Assumes nothing.
-use Rattle.std.specs.Prelude.{◌≡◌, ℕ, ◌+◌, ◌-◌, Bool, cond, ◌||◌, List, [], ◌∷◌, ◌++◌, length, Some, None, Ok, Err, fold, Option, Result, ◌==◌, nat_lt}
+use Rattle.std.specs.Prelude.{◌≡◌, ℕ, ◌+◌, ◌-◌, Bool, if◌then◌else◌, ◌||◌, List, [], ◌∷◌, ◌++◌, length, Some, None, Ok, Err, fold, Option, Result, ◌==◌, nat_lt}
 use Rattle.theory.specs.Replay.{State, step}
 use Rattle.theory.specs.Promise.{told}
 use Rattle.frames.specs.declared.frame.Frame.{Frame}
@@ -10,10 +10,12 @@ use Rattle.exchange.specs.Outcomes.{outcome_of}
 use Rattle.kept.specs.Tables.{held}
 use Rattle.picker.specs.declared.picker.Picker.{Picker}
 use Rattle.picker.specs.Entries.{total}
+use Rattle.objectives.specs.declared.objective.Objective.{Ghosts as Objective}
+use Rattle.matroids.specs.declared.matroid.Matroid.{Ghosts as Matroid}
 
 -- why a frame is not taken in: its lane or side is too high, or the shift is full
 abbrev pub refusal_of : Frame → ℕ → Option Refusal
-refusal_of x seen = cond (nat_lt 63 x.lane || nat_lt 1 x.side) (Some Over) (cond (seen == 1000000) (Some ShiftFull) None)
+refusal_of x seen = if nat_lt 63 x.lane || nat_lt 1 x.side then Some Over else (if seen == 1000000 then Some ShiftFull else None)
 
 -- what a picker keeps and has counted
 pub record Standing : Type 0 where
@@ -30,26 +32,26 @@ abbrev pub along : (List Frame → ℕ) → (List Frame → Bool) → ℕ → Li
 along f adm n es xs = fold (step f adm n) (record { kept = es; accepted = [] }) xs
 
 -- q stands where the frames xs lead, one after the other, from `before`, for the objective f, the matroid m and the size n
-pub record After {W R : Type 0} (residual : W → List Frame → ℕ) (admits : R → List Frame → Bool) (f : List Frame → ℕ) (m : R) (n : ℕ) (before : Standing) (xs : List Frame) (q : Picker W R) : Type 0 where
-  pub kept : held q.table ≡ (along f (admits m) n before.kept xs).kept
-  pub took : q.took ≡ before.took + length (along f (admits m) n before.kept xs).accepted
+pub record After {W R : Type 0} (O : Objective W) (M : Matroid R) (f : List Frame → ℕ) (m : R) (n : ℕ) (before : Standing) (xs : List Frame) (q : Picker W R) : Type 0 where
+  pub kept : held q.table ≡ (along f (M.admits m) n before.kept xs).kept
+  pub took : q.took ≡ before.took + length (along f (M.admits m) n before.kept xs).accepted
   pub seen : q.seen ≡ before.seen + length xs
-  pub gain : q.gain ≡ total (along f (admits m) n before.kept xs).kept
-  pub tells : q.told ≡ before.tells + told f (along f (admits m) n before.kept xs).accepted
+  pub gain : q.gain ≡ total (along f (M.admits m) n before.kept xs).kept
+  pub tells : q.told ≡ before.tells + told f (along f (M.admits m) n before.kept xs).accepted
   pub size : q.size.n ≡ n
   pub matroid : q.matroid ≡ m
   -- what is left to gain is what the accepted frames leave of f
-  pub left : (s : List Frame) → residual q.objective s ≡ f ((along f (admits m) n before.kept xs).accepted ++ s) - f (along f (admits m) n before.kept xs).accepted
+  pub left : (s : List Frame) → O.residual q.objective s ≡ f ((along f (M.admits m) n before.kept xs).accepted ++ s) - f (along f (M.admits m) n before.kept xs).accepted
 
-module _ {W R : Type 0} (value residual : W → List Frame → ℕ) (admits : R → List Frame → Bool) where
+module _ {W R : Type 0} (O : Objective W) (M : Matroid R) where
   -- q is p with the frames xs taken in, one after the other
   pub record Advanced (p : Picker W R) (xs : List Frame) (q : Picker W R) : Type 0 where
-    pub stands : After residual admits (residual p.objective) p.matroid p.size.n (standing p) xs q
-    pub whole : (s : List Frame) → value q.objective s ≡ value p.objective s
+    pub stands : After O M (O.residual p.objective) p.matroid p.size.n (standing p) xs q
+    pub whole : (s : List Frame) → O.value q.objective s ≡ O.value p.objective s
 
   -- what becomes of x at p
   abbrev pub verdict : Picker W R → Frame → Outcome
-  verdict p x = outcome_of (admits p.matroid) p.size.n (held p.table) x (residual p.objective (x ∷ []))
+  verdict p x = outcome_of (M.admits p.matroid) p.size.n (held p.table) x (O.residual p.objective (x ∷ []))
 
   -- r answers an offer of x at p, which is q then
   abbrev pub Answered : Picker W R → Frame → Result Outcome Refusal → Picker W R → Option Refusal → Type 0
@@ -60,7 +62,7 @@ module _ {W R : Type 0} (value residual : W → List Frame → ℕ) (admits : R 
   Offered p x r q = Answered p x r q (refusal_of x p.seen)
 
 -- r is a new picker: nothing is kept or counted, and all of the objective's value is to be gained
-pub record Opened {W R : Type 0} (value residual : W → List Frame → ℕ) (n : ℕ) (objective : W) (matroid : R) (r : Picker W R) : Type 0 where
+pub record Opened {W R : Type 0} (O : Objective W) (n : ℕ) (objective : W) (matroid : R) (r : Picker W R) : Type 0 where
   pub kept : held r.table ≡ []
   pub took : r.took ≡ 0
   pub seen : r.seen ≡ 0
@@ -68,11 +70,11 @@ pub record Opened {W R : Type 0} (value residual : W → List Frame → ℕ) (n 
   pub tells : r.told ≡ 0
   pub size : r.size.n ≡ n
   pub rule : r.matroid ≡ matroid
-  pub whole : (s : List Frame) → value r.objective s ≡ value objective s
-  pub left : (s : List Frame) → residual r.objective s ≡ value objective s
+  pub whole : (s : List Frame) → O.value r.objective s ≡ O.value objective s
+  pub left : (s : List Frame) → O.residual r.objective s ≡ O.value objective s
 
 -- q is p after a clear: nothing is kept or counted, and all of the objective's value is to be gained again
-pub record Emptied {W R : Type 0} (value residual : W → List Frame → ℕ) (p q : Picker W R) : Type 0 where
+pub record Emptied {W R : Type 0} (O : Objective W) (p q : Picker W R) : Type 0 where
   pub kept : held q.table ≡ []
   pub took : q.took ≡ 0
   pub seen : q.seen ≡ 0
@@ -80,5 +82,5 @@ pub record Emptied {W R : Type 0} (value residual : W → List Frame → ℕ) (p
   pub tells : q.told ≡ 0
   pub size : q.size.n ≡ p.size.n
   pub matroid : q.matroid ≡ p.matroid
-  pub whole : (s : List Frame) → value q.objective s ≡ value p.objective s
-  pub left : (s : List Frame) → residual q.objective s ≡ value p.objective s
+  pub whole : (s : List Frame) → O.value q.objective s ≡ O.value p.objective s
+  pub left : (s : List Frame) → O.residual q.objective s ≡ O.value p.objective s

@@ -1,5 +1,5 @@
 -- What a text offer answers, and what it takes in. Assumes nothing.
-use Rattle.std.specs.Prelude.{◌≡◌, ℕ, ◌+◌, ◌-◌, Bool, cond, List, [], ◌∷◌, length, take, Ok, Err, MatchBool, Result, ◌==◌, nat_le, nat_lt}
+use Rattle.std.specs.Prelude.{◌≡◌, ℕ, ◌+◌, ◌-◌, if◌then◌else◌, List, [], ◌∷◌, length, take, Ok, Err, MatchBool, Result, ◌==◌, nat_le, nat_lt}
 use Rattle.std.specs.List.{flat_map}
 use Rattle.frames.specs.declared.frame.Frame.{Frame}
 use Rattle.faults.specs.declared.fault.RecordFault.{RecordFault}
@@ -10,6 +10,8 @@ use Rattle.records.specs.Format.{shown}
 use Rattle.records.specs.Reading.{read_record, fault_at, frames_in, left_in}
 use Rattle.picker.specs.declared.picker.Picker.{Picker}
 use Rattle.picker.specs.Offers.{Advanced}
+use Rattle.objectives.specs.declared.objective.Objective.{Ghosts as Objective}
+use Rattle.matroids.specs.declared.matroid.Matroid.{Ghosts as Matroid}
 
 -- the frames of a text that a shift takes in, where `seen` were taken in before: those of its records, up to the first
 -- that cannot be read, as many as the shift has room for
@@ -28,14 +30,14 @@ text_answer seen text =
     let xs = taken_in seen text in
     let n = length xs in
     let at = length (flat_map shown xs) in
-    cond (nat_lt n (length (frames_in text))) (Err (Record (ShiftFull (n + 1) at))) (ending n at (left_in text))
+    if nat_lt n (length (frames_in text)) then Err (Record (ShiftFull (n + 1) at)) else ending n at (left_in text)
 
 -- r answers an offer of a text at p, which is q then
-abbrev pub TextOffered : {W R : Type 0} → (W → List Frame → ℕ) → (W → List Frame → ℕ) → (R → List Frame → Bool) → Picker W R → List ℕ → Result ℕ TextFault → Picker W R → Type 0
-TextOffered value residual admits p text r q =
-    MatchBool (nat_le (length text) 65536) ((r ≡ text_answer p.seen text) × Advanced value residual admits p (taken_in p.seen text) q) ((r ≡ Err LongText) × (q ≡ p))
+abbrev pub TextOffered : {W R : Type 0} → Objective W → Matroid R → Picker W R → List ℕ → Result ℕ TextFault → Picker W R → Type 0
+TextOffered O M p text r q =
+    MatchBool (nat_le (length text) 65536) ((r ≡ text_answer p.seen text) × Advanced O M p (taken_in p.seen text) q) ((r ≡ Err LongText) × (q ≡ p))
 
 -- r answers an offer of the frame x of a record, of that number and start, at p, which is q then
-abbrev pub RecordOffered : {W R : Type 0} → (W → List Frame → ℕ) → (W → List Frame → ℕ) → (R → List Frame → Bool) → Picker W R → Frame → ℕ → ℕ → Result (Unit {0}) RecordFault → Picker W R → Type 0
-RecordOffered value residual admits p x number start r q =
-    MatchBool (p.seen == 1000000) ((r ≡ Err (ShiftFull number start)) × (q ≡ p)) ((r ≡ Ok tt) × Advanced value residual admits p (x ∷ []) q)
+abbrev pub RecordOffered : {W R : Type 0} → Objective W → Matroid R → Picker W R → Frame → ℕ → ℕ → Result (Unit {0}) RecordFault → Picker W R → Type 0
+RecordOffered O M p x number start r q =
+    MatchBool (p.seen == 1000000) ((r ≡ Err (ShiftFull number start)) × (q ≡ p)) ((r ≡ Ok tt) × Advanced O M p (x ∷ []) q)

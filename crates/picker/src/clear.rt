@@ -9,8 +9,8 @@ use objectives::objective::Objective;
 impl<W: Objective, R: Matroid> Picker<W, R> {
     // Forgets the kept frames, zeroes the counts but the size, and resets the objective.
     pub fn clear(&mut self)
-        ensures step { Emptied W.Objective.value W.Objective.residual self.old self.new }
-        ensures carries { Carries W.Objective.value W.Objective.residual R.Matroid.admits clearing self.old self.new }
+        ensures step { Emptied W.Objective self.old self.new }
+        ensures carries { Carries W.Objective R.Matroid clearing self.old self.new }
     {
         self.objective.reset();
         self.table.clear();

@@ -1,5 +1,6 @@
 #![tactic(auto)]
 
+mod arrival;
 pub mod clear;
 pub mod looks;
 pub mod offer;

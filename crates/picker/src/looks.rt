@@ -18,16 +18,16 @@ impl<W: Objective, R: Matroid> Picker<W, R> {
     // The kept frame at a place, with its gain.
     pub fn look(&self, place: usize) -> Result<Entry, Refusal>
         ensures value { result ≡ look_of self.now place }
-        ensures carries { Carries W.Objective.value W.Objective.residual R.Matroid.admits (looking place) self.now self.now }
-        ensures promise { Promises W.Objective.value W.Objective.residual R.Matroid.admits self.now }
+        ensures carries { Carries W.Objective R.Matroid (looking place) self.now self.now }
+        ensures promise { Promises W.Objective R.Matroid self.now }
     {
         self.table.get(place).ok_or(Refusal::NoPlace)
     }
 
     pub fn counts(&self) -> Counts
         ensures value { result ≡ counts_of self.now }
-        ensures carries { Carries W.Objective.value W.Objective.residual R.Matroid.admits counting self.now self.now }
-        ensures promise { Promises W.Objective.value W.Objective.residual R.Matroid.admits self.now }
+        ensures carries { Carries W.Objective R.Matroid counting self.now self.now }
+        ensures promise { Promises W.Objective R.Matroid self.now }
     {
         Counts {
             size: self.size.get() as u32,
@@ -44,8 +44,8 @@ impl<W: Objective, R: Matroid> Picker<W, R> {
     pub fn print(&self, out: &mut [u8]) -> Result<usize, Refusal>
         ensures printed { Printed (digest (counts_of self.now) (entries_of self.now.table)) out.old out.new result }
         ensures reads_back { PlacesBack self.now }
-        ensures carries { Carries W.Objective.value W.Objective.residual R.Matroid.admits printing self.now self.now }
-        ensures promise { Promises W.Objective.value W.Objective.residual R.Matroid.admits self.now }
+        ensures carries { Carries W.Objective R.Matroid printing self.now self.now }
+        ensures promise { Promises W.Objective R.Matroid self.now }
     {
         print_digest(&self.counts(), self.table.entries(), out)
     }

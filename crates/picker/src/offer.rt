@@ -1,11 +1,11 @@
 ghost use Rattle.std.specs.Prelude.{◌≡◌, ◌<◌, List, [], ◌∷◌, ◌++◌, length, slice_set};
 ghost use Rattle.kept.specs.Tables.{held};
-ghost use Rattle.frames.specs.Frames.{InRange};
 ghost use Rattle.picker.specs.Calls.{offering};
 ghost use Rattle.picker.specs.Label.{Carries};
 ghost use Rattle.picker.specs.Offers.{Offered, Advanced, verdict};
-ghost use Rattle.picker.specs.Settling.{Accepting, Passing};
+ghost use Rattle.picker.specs.Settling.{Accepting};
 
+use crate::arrival::Arrival;
 use crate::picker::Picker;
 use exchange::judge::judge;
 use exchange::outcome::Outcome;
@@ -16,75 +16,69 @@ use matroids::matroid::Matroid;
 use objectives::objective::Objective;
 
 impl<W: Objective, R: Matroid> Picker<W, R> {
-    fn pass(&mut self)
-        requires { self.old.seen < 1000000 }
-        ensures { Passing self.old self.new }
-    {
-        self.seen += 1;
-    }
-
-    fn keep(&mut self, x: Frame, g: u32)
-        requires seen { self.old.seen < 1000000 }
+    // The gain stands beside the arrival, which tells that its frame is in range, as an entry would not.
+    fn keep(&mut self, arrival: Arrival, gain: u32)
+        requires seen { self.old.took < self.old.seen }
         requires room { length (held self.old.table) < self.old.size.n }
-        requires range { InRange x }
-        ensures { Accepting W.Objective.value W.Objective.residual x g (held self.old.table ++ ((x, g) ∷ [])) self.old self.new }
+        ensures { Accepting W.Objective arrival.frame gain (held self.old.table ++ ((arrival.frame, gain) ∷ [])) self.old self.new }
     {
-        self.objective.add(&x);
-        let _ = self.table.push(Entry { frame: x, gain: g });
+        self.objective.add(&arrival.frame);
+        let _ = self.table.push(Entry {
+            frame: arrival.frame,
+            gain,
+        });
         self.took += 1;
-        self.seen += 1;
-        self.gain += u64::from(g);
-        self.told += u64::from(g);
+        self.gain += u64::from(gain);
+        self.told += u64::from(gain);
     }
 
     // The frame that leaves is not taken back from the objective.
-    fn swap(&mut self, newcomer: Frame, g: u32, place: usize)
-        requires seen { self.old.seen < 1000000 }
+    fn swap(&mut self, newcomer: Arrival, gain: u32, place: usize)
+        requires seen { self.old.took < self.old.seen }
         requires place { place < length (held self.old.table) }
-        requires range { InRange newcomer }
-        ensures { Accepting W.Objective.value W.Objective.residual newcomer g (slice_set (held self.old.table) place (newcomer, g)) self.old self.new }
+        ensures { Accepting W.Objective newcomer.frame gain (slice_set (held self.old.table) place (newcomer.frame, gain)) self.old self.new }
     {
         let was = self.table.gain_at(place);
-        self.objective.add(&newcomer);
+        self.objective.add(&newcomer.frame);
         self.table.replace(
             place,
             Entry {
-                frame: newcomer,
-                gain: g,
+                frame: newcomer.frame,
+                gain,
             },
         );
         self.took += 1;
-        self.seen += 1;
-        self.told += u64::from(g);
-        self.gain = self.gain - u64::from(was) + u64::from(g);
+        self.told += u64::from(gain);
+        self.gain = self.gain - u64::from(was) + u64::from(gain);
     }
 
     // What becomes of `x`, by its gain over all frames that were accepted.
     fn weigh(&self, x: Frame) -> Outcome
-        ensures { result ≡ verdict W.Objective.value W.Objective.residual R.Matroid.admits self.now x }
+        ensures { result ≡ verdict W.Objective R.Matroid self.now x }
     {
         let gain = self.objective.gain(&x);
         judge(&self.matroid, self.size, &self.table, x, gain)
     }
 
-    // Takes in a frame that a record can hold.
-    pub(crate) fn take_in(&mut self, x: Frame) -> Outcome
-        requires seen { self.old.seen < 1000000 }
-        requires range { InRange x }
-        ensures outcome { result ≡ verdict W.Objective.value W.Objective.residual R.Matroid.admits self.old x }
-        ensures after { Advanced W.Objective.value W.Objective.residual R.Matroid.admits self.old (x ∷ []) self.new }
+    pub(crate) fn take_in(&mut self, arrival: Arrival) -> Outcome
+        requires { self.old.seen < 1000000 }
+        ensures outcome { result ≡ verdict W.Objective R.Matroid self.old arrival.frame }
+        ensures after { Advanced W.Objective R.Matroid self.old (arrival.frame ∷ []) self.new }
     {
-        let outcome = self.weigh(x);
+        let outcome = self.weigh(arrival.frame);
+        self.seen += 1;
         match outcome {
-            Outcome::Kept { gain, .. } => self.keep(x, gain),
-            Outcome::Swapped { place, gain, .. } => self.swap(x, gain, place),
-            _ => self.pass(),
+            Outcome::Kept { gain, .. } => self.keep(arrival, gain),
+            Outcome::Swapped { place, gain, .. } => self.swap(arrival, gain, place),
+            _ => {}
         }
         outcome
     }
 
-    fn settle(&mut self, x: Frame) -> Result<Outcome, Refusal>
-        ensures { Offered W.Objective.value W.Objective.residual R.Matroid.admits self.old x result self.new }
+    // Takes in a frame, unless its lane or side is too high or the shift is full; then nothing changes.
+    pub fn offer(&mut self, x: Frame) -> Result<Outcome, Refusal>
+        ensures step { Offered W.Objective R.Matroid self.old x result self.new }
+        ensures carries { Carries W.Objective R.Matroid (offering x) self.old self.new }
     {
         if x.lane > 63 || x.side > 1 {
             return Err(Refusal::Over);
@@ -92,14 +86,6 @@ impl<W: Objective, R: Matroid> Picker<W, R> {
         if self.seen == 1_000_000 {
             return Err(Refusal::ShiftFull);
         }
-        Ok(self.take_in(x))
-    }
-
-    // Takes in a frame, unless its lane or side is too high or the shift is full; then nothing changes.
-    pub fn offer(&mut self, x: Frame) -> Result<Outcome, Refusal>
-        ensures step { Offered W.Objective.value W.Objective.residual R.Matroid.admits self.old x result self.new }
-        ensures carries { Carries W.Objective.value W.Objective.residual R.Matroid.admits (offering x) self.old self.new }
-    {
-        self.settle(x)
+        Ok(self.take_in(Arrival { frame: x }))
     }
 }

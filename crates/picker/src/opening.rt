@@ -9,12 +9,11 @@ use matroids::matroid::Matroid;
 use objectives::objective::Objective;
 
 impl<W: Objective, R: Matroid> Picker<W, R> {
-    // A picker that keeps nothing, over a reset objective.
-    pub fn open(size: Size, objective: W, matroid: R) -> Picker<W, R>
-        ensures opened { Opened W.Objective.value W.Objective.residual size.n objective matroid result }
-        ensures met { Met W.Objective.value W.Objective.residual R.Matroid.admits [] result }
+    // A picker that keeps nothing, over a reset objective. The three stand apart, as callers make them.
+    pub fn open(size: Size, mut objective: W, matroid: R) -> Picker<W, R>
+        ensures opened { Opened W.Objective size.n objective matroid result }
+        ensures met { Met W.Objective R.Matroid [] result }
     {
-        let mut objective = objective;
         objective.reset();
         Picker {
             objective,

@@ -1,20 +1,23 @@
-ghost use Rattle.frames.specs.Frames.{InRange};
 ghost use Rattle.picker.specs.Calls.{reading};
 ghost use Rattle.picker.specs.Label.{Carries};
 ghost use Rattle.picker.specs.Texts.{TextOffered, RecordOffered};
 
+use crate::arrival::Arrival;
 use crate::picker::Picker;
 use faults::fault::{RecordFault, TextFault};
-use frames::frame::Frame;
 use matroids::matroid::Matroid;
 use objectives::objective::Objective;
 use reading::reader::Records;
 
 impl<W: Objective, R: Matroid> Picker<W, R> {
     // Takes in the frame of a record, unless the shift is full.
-    fn take_record(&mut self, x: Frame, record: usize, start: usize) -> Result<(), RecordFault>
-        requires { InRange x }
-        ensures { RecordOffered W.Objective.value W.Objective.residual R.Matroid.admits self.old x «record» start result self.new }
+    fn take_record(
+        &mut self,
+        arrival: Arrival,
+        record: usize,
+        start: usize,
+    ) -> Result<(), RecordFault>
+        ensures { RecordOffered W.Objective R.Matroid self.old arrival.frame «record» start result self.new }
     {
         if self.seen == 1_000_000 {
             return Err(RecordFault::ShiftFull {
@@ -22,12 +25,15 @@ impl<W: Objective, R: Matroid> Picker<W, R> {
                 byte: start,
             });
         }
-        let _ = self.take_in(x);
+        let _ = self.take_in(arrival);
         Ok(())
     }
 
-    fn read(&mut self, text: &[u8]) -> Result<usize, TextFault>
-        ensures { TextOffered W.Objective.value W.Objective.residual R.Matroid.admits self.old text.now result self.new }
+    // Offers a text's records in turn, and answers how many. It stops at the first fault, and the records before it
+    // stand; a text of over 65,536 bytes is not looked into. Records are no iterator, so this is a `loop`.
+    pub fn offer_text(&mut self, text: &[u8]) -> Result<usize, TextFault>
+        ensures step { TextOffered W.Objective R.Matroid self.old text.now result self.new }
+        ensures carries { Carries W.Objective R.Matroid (reading text.now) self.old self.new }
     {
         if text.len() > 65_536 {
             return Err(TextFault::LongText);
@@ -38,16 +44,7 @@ impl<W: Objective, R: Matroid> Picker<W, R> {
             let Some(x) = records.next()? else {
                 return Ok(records.count());
             };
-            self.take_record(x, records.count(), start)?;
+            self.take_record(Arrival { frame: x }, records.count(), start)?;
         }
-    }
-
-    // Offers a text's records in turn, and answers how many. It stops at the first fault, and the records before it
-    // stand; a text of over 65,536 bytes is not looked into.
-    pub fn offer_text(&mut self, text: &[u8]) -> Result<usize, TextFault>
-        ensures step { TextOffered W.Objective.value W.Objective.residual R.Matroid.admits self.old text.now result self.new }
-        ensures carries { Carries W.Objective.value W.Objective.residual R.Matroid.admits (reading text.now) self.old self.new }
-    {
-        self.read(text)
     }
 }

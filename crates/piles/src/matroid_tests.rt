@@ -12,12 +12,9 @@ use std::test::Fail;
 fn edge(tail: u8, head: u8) -> Frame {
     Frame {
         number: 1,
-        marks: 0,
-        look: 0,
-        lane: 0,
         tail,
         head,
-        side: 0,
+        ..Frame::default()
     }
 }
 
@@ -25,12 +22,9 @@ fn edge(tail: u8, head: u8) -> Frame {
 fn on_lane(lane: u8) -> Frame {
     Frame {
         number: 2,
-        marks: 0,
-        look: 0,
         lane,
-        tail: 0,
-        head: 0,
         side: 1,
+        ..Frame::default()
     }
 }
 

@@ -9,6 +9,7 @@ use parsing::read_record::read_record;
 
 impl<'a> Records<'a> {
     // The frame of the next record, or none at the text's end. After a fault the same record is still to be read.
+    // No `Iterator`: after a fault its items would not end, so `for` could not take them, and its `count` would hide ours.
     pub fn next(&mut self) -> Result<Option<Frame>, RecordFault>
         ensures text { text_of self.new ≡ text_of self.old }
         ensures cases { NextRead (text_of self.old) (start_of self.old) (count_of self.old) (start_of self.new) (count_of self.new) result }

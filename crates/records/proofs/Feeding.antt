@@ -1,15 +1,14 @@
--- The first line feed of a text.
-use Rattle.std.proofs.Common.{◌≡◌, ℕ, ◌+◌, ◌<◌, not, eqb, List, length, get_or, drop, ap, arith}
-use Rattle.std.proofs.lemmas.List.Sums.{prefix_len-drop_yes, prefix_len-drop_no, prefix_len-drop_all}
-use Rattle.std.proofs.lemmas.Bool.{eq-eqb, ne_eqb}
-use Rattle.records.specs.Reading.{before_feed}
+-- The first line feed of a text, as the place that a search for it answers.
+use Rattle.std.proofs.Common.{◌≡◌, ℕ, ◌<◌, ◌≤◌, not, cond, eqb, ltb, List, length, Some, None, Option, refl, sym, ◌∙◌, subst, ⊎_elim, arith}
+use Rattle.std.proofs.lemmas.List.Sums.{prefix_len-le-length}
+use Rattle.std.proofs.lemmas.Bool.{lt-ltb, le-ltb, cond-true, cond-false, cases_lt}
+use Rattle.records.specs.Reading.{before_feed, Fed}
 
-module _ (s : List ℕ) (i : ℕ) (far : before_feed s ≡ i + before_feed (drop i s)) where
-  pub feed_here : i < length s → get_or s i 0 ≡ 10 → i ≡ before_feed s
-  feed_here l e = omega (arith, prefix_len-drop_no (λ c. not (eqb c 10)) s i 0 l (ap not (eq-eqb (get_or s i 0) 10 e)))
-
-  pub feed_later : i < length s → (get_or s i 0 ≡ 10 → ⊥) → before_feed s ≡ (i + 1) + before_feed (drop (i + 1) s)
-  feed_later l e = omega (arith, prefix_len-drop_yes (λ c. not (eqb c 10)) s i 0 l (ap not (ne_eqb (get_or s i 0) 10 e)))
-
-  pub feed_never : i ≡ length s → before_feed s ≡ length s
-  feed_never l = omega (arith, prefix_len-drop_all (λ c. not (eqb c 10)) s i (omega arith))
+pub fed_by_place : (s : List ℕ) (r : Option ℕ) → r ≡ cond (ltb (before_feed s) (length s)) (Some (before_feed s)) None → Fed s r
+fed_by_place s r e =
+    let n = before_feed s in
+    ⊎_elim
+    (λ (h : n < length s). subst (Fed s) (sym (e ∙ cond-true _ _ _ (lt-ltb n (length s) h))) (refl, h))
+    (λ (h : length s ≤ n).
+    subst (Fed s) (sym (e ∙ cond-false _ _ _ (le-ltb n (length s) h))) (omega (arith, h, prefix_len-le-length (λ c. not (eqb c 10)) s)))
+    (cases_lt n (length s))

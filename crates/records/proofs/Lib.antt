@@ -1,3 +1,4 @@
+pub mod Results
 pub mod Keys
 mod Feeding
 pub mod Feeds

@@ -1,12 +1,13 @@
 -- Ways to write a value, such that a line reads as it was written, and what was read is what is written.
-use Rattle.std.proofs.Common.{◌≡◌, ℕ, zero, suc, ◌+◌, ◌<◌, ◌≤◌, true, false, not, eqb, ltb, List, [], ◌∷◌, ◌++◌, length, take, drop, Ok, Err, Result, sym, refl, ap, ◌∙◌, subst, ⊎_elim, arith, length-append, length-take}
-use Rattle.std.proofs.lemmas.List.{take_at, drop_at, drop-drop}
-use Rattle.std.proofs.lemmas.List.Sums.{prefix_len-le-length, common_prefix_len-le}
-use Rattle.std.proofs.lemmas.Bool.{cases_eq, cases_lt, cases_Bool, ne_eqb, cond-true, cond-false, and_parts, ltb-true}
+use Rattle.std.proofs.Common.{◌≡◌, ℕ, ◌+◌, ◌<◌, ◌≤◌, Bool, ◌==◌, true, false, not, eqb, ltb, List, [], ◌∷◌, ◌++◌, length, take, drop, Ok, sym, refl, ap, ◌∙◌, subst, ⊎_elim, arith, length-append, length-take}
+use Rattle.std.proofs.lemmas.List.{take_at, drop_at, drop-drop, get_or-take}
+use Rattle.std.proofs.lemmas.List.Sums.{prefix_len-le-length, common_prefix_len-le, position_or_len_is, fails_before_first, passes_at_first}
+use Rattle.std.proofs.lemmas.Bool.{cases_eq, cases_lt, cases_Bool, ne_eqb, cond-true, and_parts, ltb-true}
 use Rattle.std.specs.List.{common_prefix_len}
 use Rattle.records.specs.Reading.{Due, digit, digits_in, before_feed, number_in, judged, read_value, read_due}
 use Rattle.records.proofs.Feeds.{feed_splits}
 use Rattle.records.proofs.Keys.{common_front, front_common}
+use Rattle.records.proofs.Results.{apart, same_ok}
 use Rattle.records.proofs.LineCases.{no_key, key_there, no_end, end_there, no_form, too_high, all_well}
 
 -- `write` writes the values of a line
@@ -17,25 +18,14 @@ pub record Notation (d : Due) (write : ℕ → List ℕ) : Type 0 where
   pub unique : (ds : List ℕ) → d.formed ds ≡ true → number_in d.base ds ≤ d.highest → write (number_in d.base ds) ≡ ds
   pub plain : (ds rest : List ℕ) → d.formed ds ≡ true → before_feed (ds ++ (10 ∷ rest)) ≡ length ds
 
--- an error is no value
-clash : {X Y : Type 0} (r : Result X Y) (x : X) (y : Y) → r ≡ Err y → r ≡ Ok x → ⊥
-clash r x y p q = let z : ◌≡◌ {A = ℕ} 0 1 = cc in omega arith
-
-same_ok : {X Y : Type 0} (r : Result X Y) (x y : X) → r ≡ Ok x → r ≡ Ok y → x ≡ y
-same_ok r x y p q = cc
-
 -- a shorter part has the same first line feed
 before-take : (m : ℕ) (s : List ℕ) → before_feed s < m → before_feed (take m s) ≡ before_feed s
-before-take zero s h = absurd (omega arith)
-before-take (suc m) [] h = refl
-before-take (suc m) (c ∷ s) h =
-    ⊎_elim
-    (λ (e : eqb c 10 ≡ true). cond-false (not (eqb c 10)) _ 0 (ap not e) ∙ sym (cond-false (not (eqb c 10)) _ 0 (ap not e)))
-    (λ (e : eqb c 10 ≡ false).
-    let z : before_feed (c ∷ s) ≡ 1 + before_feed s = cond-true (not (eqb c 10)) _ 0 (ap not e) in
-    let r = before-take m s (omega (arith, z)) in
-    cond-true (not (eqb c 10)) _ 0 (ap not e) ∙ (ap (λ (n : ℕ). 1 + n) r ∙ sym z))
-    (cases_Bool (eqb c 10))
+before-take m s h =
+    let feed : ℕ → Bool = λ c. c == 10 in
+    let n = before_feed s in
+    position_or_len_is feed (take m s) n 0 (omega (arith, length-take m s, prefix_len-le-length (λ c. not (eqb c 10)) s, h))
+    (λ k l. ap feed (get_or-take m s k 0 (omega (arith, l, h))) ∙ fails_before_first feed s k 0 l)
+    (λ l. ap feed (get_or-take m s n 0 h) ∙ passes_at_first feed s 0 (omega (arith, l, length-take m s)))
 
 -- digits have no line feed among them
 pub digits_plain : (base : ℕ) → base ≤ 16 → (ds rest : List ℕ) → digits_in base ds ≡ true → before_feed (ds ++ (10 ∷ rest)) ≡ length ds
@@ -70,13 +60,13 @@ module _ (d : Due) (write : ℕ → List ℕ) (w : Notation d write) where
       ⊎_elim
       (λ (f : d.formed ds ≡ true).
       ⊎_elim
-      (λ (h : d.highest < number_in d.base ds). absurd (clash (judged d ds rest) (v, rest') _ (too_high d ds rest f h) ok))
+      (λ (h : d.highest < number_in d.base ds). absurd (apart (judged d ds rest) (v, rest') _ ok (too_high d ds rest f h)))
       (λ (h : number_in d.base ds ≤ d.highest).
       let a = same_ok (judged d ds rest) (number_in d.base ds, rest) (v, rest') (all_well d ds rest f h) ok in
       let e = ap (λ (p : ℕ × List ℕ). p.0) a in
       (subst (λ (m : ℕ). m ≤ d.highest) e h, sym (w.unique ds f h) ∙ ap write e, ap (λ (p : ℕ × List ℕ). p.1) a))
       (cases_lt d.highest (number_in d.base ds)))
-      (λ (f : d.formed ds ≡ false). absurd (clash (judged d ds rest) (v, rest') _ (no_form d ds rest f) ok))
+      (λ (f : d.formed ds ≡ false). absurd (apart (judged d ds rest) (v, rest') _ ok (no_form d ds rest f)))
       (cases_Bool (d.formed ds))
 
   value_written : (s : List ℕ) (v : ℕ) (rest : List ℕ) → read_value d s ≡ Ok (v, rest) → (v ≤ d.highest) × (s ≡ write v ++ (10 ∷ rest))
@@ -90,7 +80,7 @@ module _ (d : Due) (write : ℕ → List ℕ) (w : Notation d write) where
       let p = j.1 in
       let q = j.2 in
       (j.0, cc))
-      (λ (l : length window ≤ before_feed window). absurd (clash (read_value d s) (v, rest) _ (no_end d s (omega (arith, l, prefix_len-le-length (λ c. not (eqb c 10)) window))) ok))
+      (λ (l : length window ≤ before_feed window). absurd (apart (read_value d s) (v, rest) _ ok (no_end d s (omega (arith, l, prefix_len-le-length (λ c. not (eqb c 10)) window)))))
       (cases_lt (before_feed window) (length window))
 
   -- what was read is what is written
@@ -100,5 +90,5 @@ module _ (d : Due) (write : ℕ → List ℕ) (w : Notation d write) where
       (λ (e : common_prefix_len eqb d.key s ≡ length d.key).
       let p = value_written (drop (length d.key) s) v rest (sym (key_there d s e) ∙ ok) in
       (p.0, front_common d.key s e ∙ ap (λ (t : List ℕ). d.key ++ t) p.1))
-      (λ (e : common_prefix_len eqb d.key s ≡ length d.key → ⊥). absurd (clash (read_due d s) (v, rest) _ (no_key d s (omega (arith, e, common_prefix_len-le eqb d.key s))) ok))
+      (λ (e : common_prefix_len eqb d.key s ≡ length d.key → ⊥). absurd (apart (read_due d s) (v, rest) _ ok (no_key d s (omega (arith, e, common_prefix_len-le eqb d.key s)))))
       (cases_eq (common_prefix_len eqb d.key s) (length d.key))

@@ -1,5 +1,5 @@
 -- How a frame is written as text: seven lines, each a key, `=`, the value and a line feed. Assumes nothing.
-use Rattle.std.specs.Prelude.{ℕ, zero, suc, ◌+◌, ◌/◌, ◌%◌, cond, List, [], ◌∷◌, ◌++◌, codes, decimal, nat_lt}
+use Rattle.std.specs.Prelude.{ℕ, zero, suc, ◌+◌, ◌/◌, ◌%◌, if◌then◌else◌, List, [], ◌∷◌, ◌++◌, codes, decimal, nat_lt}
 use Rattle.std.specs.List.{flat_map}
 use Rattle.frames.specs.declared.frame.Frame.{Frame}
 use Rattle.records.specs.declared.key.Key.{Key}
@@ -41,7 +41,7 @@ highest Side = 1
 
 -- 0 to 9, then a to f
 abbrev pub hex_digit : ℕ → ℕ
-hex_digit d = cond (nat_lt d 10) (48 + d) (87 + d)
+hex_digit d = if nat_lt d 10 then 48 + d else 87 + d
 
 -- the last k hexadecimal digits of n
 abbrev pub hex_digits : ℕ → ℕ → List ℕ

@@ -1,8 +1,8 @@
 -- How a text is read: a line, a record, and the records at the front of a text. Assumes nothing.
-use Rattle.std.specs.Prelude.{◌≡◌, ℕ, zero, suc, ◌+◌, ◌-◌, ◌<◌, Bool, true, cond, not, ◌&&◌, ◌||◌, eqb, List, [], ◌∷◌, map, length, take, drop, Ok, Err, Option, Result, ◌==◌, nat_le, nat_lt, slice_index}
+use Rattle.std.specs.Prelude.{◌≡◌, ℕ, zero, suc, ◌+◌, ◌-◌, ◌<◌, Bool, true, if◌then◌else◌, not, ◌&&◌, ◌||◌, List, [], ◌∷◌, map, length, take, drop, Ok, Err, Option, Result, ◌==◌, nat_eq, nat_le, nat_lt, slice_index}
 use Rattle.std.specs.Option as options
 use Rattle.std.specs.Int.{is_in_range}
-use Rattle.std.specs.List.{common_prefix_len, prefix_len}
+use Rattle.std.specs.List.{common_prefix_len, position_or_len}
 use Rattle.std.specs.Int.Digits.{number_from_digits}
 use Rattle.frames.specs.declared.frame.Frame.{Frame}
 use Rattle.spots.specs.Faults.{spot}
@@ -30,7 +30,7 @@ amiss w n = record { why = w; byte = n }
 
 -- what a byte writes as a digit: 0 to 9, a to f; 16 for any other byte
 abbrev pub digit : ℕ → ℕ
-digit c = cond (is_in_range 48 57 c) (c - 48) (cond (is_in_range 97 102 c) (c - 87) 16)
+digit c = if is_in_range 48 57 c then c - 48 else (if is_in_range 97 102 c then c - 87 else 16)
 
 -- digits of a base, and nothing else
 abbrev pub digits_in : ℕ → List ℕ → Bool
@@ -86,11 +86,13 @@ due k = record { key = key_bytes k; longest = longest k; highest = highest k; ba
 
 -- the key is not there: the text ends within it, or a byte differs
 abbrev pub key_amiss : List ℕ → List ℕ → Amiss
-key_amiss key s = cond (common_prefix_len eqb key s == length s) (amiss cut 0) (amiss wrong_key (common_prefix_len eqb key s))
+key_amiss key s =
+    let n = common_prefix_len nat_eq key s in
+    if n == length s then amiss cut 0 else amiss wrong_key n
 
 -- how many bytes stand before the first line feed
 abbrev pub before_feed : List ℕ → ℕ
-before_feed s = prefix_len (λ c. not (c == 10)) s
+before_feed s = position_or_len (λ c. c == 10) s
 
 -- r is the place of the first line feed, if there is one
 abbrev pub Fed : List ℕ → Option ℕ → Type 0
@@ -98,12 +100,13 @@ Fed s r = options.MatchOption r (before_feed s ≡ length s) (λ i. (i ≡ befor
 
 -- no line feed stands among the first bytes behind the key, one more than the longest value has
 abbrev pub end_amiss : Due → List ℕ → Amiss
-end_amiss d s = cond (nat_le (length s) d.longest) (amiss cut 0) (amiss bad_form (length d.key))
+end_amiss d s = if nat_le (length s) d.longest then amiss cut 0 else amiss bad_form (length d.key)
 
 -- the bytes of a value are judged by their form, and then by the range
 abbrev pub judged : Due → List ℕ → List ℕ → Result (ℕ × List ℕ) Amiss
 judged d ds rest =
-    cond (d.formed ds) (cond (nat_le (number_in d.base ds) d.highest) (Ok (number_in d.base ds, rest)) (Err (amiss over (length d.key)))) (Err (amiss bad_form (length d.key)))
+    let v = number_in d.base ds in
+    if d.formed ds then (if nat_le v d.highest then Ok (v, rest) else Err (amiss over (length d.key))) else Err (amiss bad_form (length d.key))
 
 -- the text behind the key is read: up to the first line feed stands the value, and the line feed stands within one byte
 -- more than the longest value has
@@ -111,11 +114,12 @@ abbrev pub read_value : Due → List ℕ → Result (ℕ × List ℕ) Amiss
 read_value d s =
     let window = take (d.longest + 1) s in
     let n = before_feed window in
-    cond (nat_lt n (length window)) (judged d (take n s) (drop (n + 1) s)) (Err (end_amiss d s))
+    if nat_lt n (length window) then judged d (take n s) (drop (n + 1) s) else Err (end_amiss d s)
 
 -- a text is read as a line: the value, and the text behind the line
 abbrev pub read_due : Due → List ℕ → Result (ℕ × List ℕ) Amiss
-read_due d s = cond (common_prefix_len eqb d.key s == length d.key) (read_value d (drop (length d.key) s)) (Err (key_amiss d.key s))
+read_due d s =
+    if common_prefix_len nat_eq d.key s == length d.key then read_value d (drop (length d.key) s) else Err (key_amiss d.key s)
 
 -- a line of any key with a value in shortest decimal digits
 unfoldable pub read_decimal_line : List ℕ → ℕ → ℕ → List ℕ → Result (ℕ × List ℕ) Amiss

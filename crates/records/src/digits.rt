@@ -5,8 +5,6 @@ pub struct Digits<'a> {
     pub bytes: &'a [u8],
     // where they start in the text
     pub at: usize,
-    // whether they are written as values of their kind are
-    pub formed: bool,
-    // the number that they write, 0 where they are not well formed
-    pub number: u64,
+    // the number that they write, none where they are not written as values of their kind are
+    pub number: Option<u64>,
 }

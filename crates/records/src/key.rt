@@ -1,7 +1,7 @@
-// The seven lines of a record, in their order.
+// The seven lines of a record in their order, each with its number in the record.
 #[derive(Clone, Copy, PartialEq, Eq, Debug)]
 pub enum Key {
-    Number,
+    Number = 1,
     Marks,
     Look,
     Lane,

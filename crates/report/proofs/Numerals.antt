@@ -1,78 +1,99 @@
--- The digits of a number, from the last one back. Assumes nothing.
-use Rattle.std.proofs.Common.{◌≡◌, ℕ, zero, suc, ◌+◌, ◌-◌, ◌/◌, ◌%◌, ◌^◌, ◌<◌, ◌≤◌, ltb, List, [], ◌∷◌, ◌++◌, length, drop, set, decimal, sym, refl, ap, ◌∙◌, add-one, arith}
-use Rattle.std.proofs.lemmas.Fmt.{decimal_by_steps, decimal_digit, decimal_step, length-decimal-le}
-use Rattle.std.proofs.lemmas.List.{append_assoc, drop-set, length_push}
-use Rattle.std.proofs.lemmas.Bool.{lt-ltb, cond-true}
+-- How many decimal digits a number takes, and that its sixteen digits are two for each of its bytes. Assumes nothing.
+use Rattle.std.proofs.Common.{◌≡◌, ℕ, zero, suc, ◌*◌, ◌/◌, ◌%◌, ◌^◌, ◌<◌, ◌≤◌, ◌+◌, ◌==◌, Bool, true, ◌&&◌, List, [], ◌∷◌, ◌++◌, length, slice_index, refl, sym, ap, ◌∙◌, decimal, add-one, append_assoc, arith, inl, inr}
+use Rattle.std.proofs.lemmas.Bool.{and_parts, cases_lt, eqb-true}
+use Rattle.std.proofs.lemmas.Fmt.{decimal_digit, decimal_nonempty, decimal_step, length-decimal-le}
+use Rattle.std.proofs.lemmas.List.{length_push}
+use Rattle.std.specs.Int.{byte_at, bytes_high_first}
+use native.Mathlib.Nat.{div-div-eq-div-mul, pow-succ'}
+use Rattle.hex.specs.Hex.{encode_with, encode_lower, lower_digits}
 use Rattle.records.specs.Format.{hex_digit, hex_digits, hexadecimal}
-use Rattle.records.specs.Sheets.{over}
-use Rattle.report.specs.Lines.{last_digits}
 
-pub length-decimal-digit : (n : ℕ) → n < 10 → length (decimal n) ≡ 1
-length-decimal-digit n h = ap length (decimal_digit n h)
+length-hex_digits : (k n : ℕ) → length (hex_digits k n) ≡ k
+length-hex_digits zero n = refl
+length-hex_digits (suc k) n =
+    length_push (hex_digits k (n / 16)) (hex_digit (n % 16)) ∙ add-one (length (hex_digits k (n / 16))) ∙ ap suc (length-hex_digits k (n / 16))
 
-pub length-decimal-step : (n : ℕ) → 10 ≤ n → n < 2 ^ 64 → length (decimal n) ≡ length (decimal (n / 10)) + 1
-length-decimal-step n h b = ap length (decimal_step n h b) ∙ length_push (decimal (n / 10)) (48 + n % 10)
-
-pub length-decimal_most : (n : ℕ) → n < 2 ^ 64 → length (decimal n) ≤ 20
-length-decimal_most n b = length-decimal-le 20 n (omega arith) (omega arith) b
-
-digit_low : (d : ℕ) → d < 10 → hex_digit d ≡ 48 + d
-digit_low d h = cond-true (ltb d 10) (48 + d) (87 + d) (lt-ltb d 10 h)
-
-abbrev Last : ℕ → List ℕ → Type 0
-Last n ds = ds ≡ last_digits 10 (length ds) n
-
-last_one : (n : ℕ) → n < 10 → Last n ((48 + n) ∷ [])
-last_one n h =
-    let m : n % 10 ≡ n = omega arith in
-    ap (λ d. d ∷ []) (sym (digit_low n h) ∙ ap hex_digit (sym m))
-
-last_more : (n : ℕ) (ds : List ℕ) → 10 ≤ n → Last (n / 10) ds → Last n (ds ++ ((48 + n % 10) ∷ []))
-last_more n ds h e =
-    let low : n % 10 < 10 = omega arith in
-    let long : length (ds ++ ((48 + n % 10) ∷ [])) ≡ suc (length ds) = length_push ds (48 + n % 10) ∙ add-one (length ds) in
-    let step : ds ++ ((48 + n % 10) ∷ []) ≡ last_digits 10 (suc (length ds)) n = cc (e, digit_low (n % 10) low) in
-    step ∙ ap (λ k. last_digits 10 k n) (sym long)
-
-pub decimal_last : (n : ℕ) → n < 2 ^ 64 → decimal n ≡ last_digits 10 (length (decimal n)) n
-decimal_last n b = decimal_by_steps Last last_one last_more n b
-
-hex_digits_last : (k n : ℕ) → hex_digits k n ≡ last_digits 16 k n
-hex_digits_last zero n = refl
-hex_digits_last (suc k) n = ap (λ ds. ds ++ (hex_digit (n % 16) ∷ [])) (hex_digits_last k (n / 16))
-
-pub hexadecimal_last : (n : ℕ) → hexadecimal n ≡ last_digits 16 16 n
+pub sixteen_long : (n : ℕ) → length (hexadecimal n) ≡ 16
 unfolding hexadecimal
-hexadecimal_last n = hex_digits_last 16 n
+sixteen_long n = length-hex_digits 16 n
 
-length-last_digits : (b k n : ℕ) → length (last_digits b k n) ≡ k
-length-last_digits b zero n = refl
-length-last_digits b (suc k) n =
-    length_push (last_digits b k (n / b)) (hex_digit (n % b)) ∙ add-one (length (last_digits b k (n / b))) ∙ ap suc (length-last_digits b k (n / b))
+-- the digits of the numbers below n are the table's, which computes
+abbrev agree : ℕ → Bool
+agree zero = true
+agree (suc n) = (slice_index lower_digits n == hex_digit n) && agree n
 
-pub length-hexadecimal : (n : ℕ) → length (hexadecimal n) ≡ 16
-length-hexadecimal n = ap length (hexadecimal_last n) ∙ length-last_digits 16 16 n
+agree_at : (n k : ℕ) → agree n ≡ true → k < n → slice_index lower_digits k ≡ hex_digit k
+agree_at zero k h low = absurd (omega arith)
+agree_at (suc n) k h low =
+    let parts = and_parts (slice_index lower_digits n == hex_digit n) (agree n) h in
+    elim (cases_lt k n) [
+      | inl below ↦ agree_at n k parts.1 below
+      | inr top ↦
+          let e : k ≡ n = omega arith in
+          rw e (eqb-true (slice_index lower_digits n) (hex_digit n) parts.0)
+    ]
 
--- one digit written in front of those behind it
-pub last_step : (b i rest d : ℕ) (out : List ℕ) → 0 < i → i ≤ length out → d ≡ hex_digit (rest % b)
-    → last_digits b (i - 1) (rest / b) ++ drop (i - 1) (set out (i - 1) d) ≡ last_digits b i rest ++ drop i out
-last_step b zero rest d out some fits e = absurd (omega arith)
-last_step b (suc k) rest d out some fits e =
-    let p : suc k - 1 ≡ k = omega arith in
-    let low : k < length out = omega arith in
-    let ds = last_digits b k (rest / b) in
-    let digit = hex_digit (rest % b) in
-    let set : drop k (set out k d) ≡ d ∷ drop (suc k) out = drop-set out k d low ∙ ap (λ j. d ∷ drop j out) (add-one k) in
-    let joins : (ds ++ (digit ∷ [])) ++ drop (suc k) out ≡ ds ++ (digit ∷ drop (suc k) out) = append_assoc ds (digit ∷ []) (drop (suc k) out) in
-    rw p (cc (set, joins, e))
+same_digit : (d : ℕ) → d < 16 → slice_index lower_digits d ≡ hex_digit d
+same_digit d low = agree_at 16 d refl low
 
--- the digits as a text
-pub decimal-over : (n len : ℕ) (xs : List ℕ) → n < 2 ^ 64 → len ≡ length (decimal n) → last_digits 10 len n ++ drop len xs ≡ over (decimal n) xs
-decimal-over n len xs b is =
-    ap (λ k. last_digits 10 k n ++ drop k xs) is ∙ ap (λ ds. ds ++ drop (length (decimal n)) xs) (sym (decimal_last n b))
+encode-append : (t xs ys : List ℕ) → encode_with t (xs ++ ys) ≡ encode_with t xs ++ encode_with t ys
+unfolding encode_with
+encode-append t [] ys = refl
+encode-append t (b ∷ xs) ys = ap (λ zs. slice_index t (b / 16) ∷ slice_index t (b % 16) ∷ zs) (encode-append t xs ys)
 
-pub hexadecimal-over : (n len : ℕ) (xs : List ℕ) → len ≡ length (hexadecimal n) → last_digits 16 len n ++ drop len xs ≡ over (hexadecimal n) xs
-hexadecimal-over n len xs is =
-    let sixteen : len ≡ 16 = is ∙ length-hexadecimal n in
-    ap (λ k. last_digits 16 k n ++ drop k xs) sixteen ∙ ap (λ ds. ds ++ drop 16 xs) (sym (hexadecimal_last n))
-    ∙ ap (λ k. hexadecimal n ++ drop k xs) (sym (length-hexadecimal n))
+byte_above : (k n : ℕ) → byte_at (suc k) n ≡ byte_at k (n / 256)
+byte_above zero n = refl
+byte_above (suc k) n = ap (λ w. n / w % 256) (pow-succ' 256 (suc k)) ∙ ap (λ m. m % 256) (sym (div-div-eq-div-mul n 256 (256 ^ suc k)))
+
+bytes_push : (k n : ℕ) → bytes_high_first (suc k) n ≡ bytes_high_first k (n / 256) ++ (n % 256 ∷ [])
+bytes_push zero n = refl
+bytes_push (suc k) n = ap (λ b. b ∷ bytes_high_first (suc k) n) (byte_above k n) ∙ ap (λ bs. byte_at k (n / 256) ∷ bs) (bytes_push k n)
+
+two_digits : (n : ℕ) → encode_lower (n % 256 ∷ []) ≡ hex_digit (n / 16 % 16) ∷ hex_digit (n % 16) ∷ []
+unfolding encode_with
+two_digits n =
+    let high : n % 256 / 16 ≡ n / 16 % 16 = omega arith in
+    let low : n % 256 % 16 ≡ n % 16 = omega arith in
+    ap (λ d. slice_index lower_digits d ∷ slice_index lower_digits (n % 256 % 16) ∷ []) high
+    ∙ ap (λ d. slice_index lower_digits (n / 16 % 16) ∷ slice_index lower_digits d ∷ []) low
+    ∙ ap (λ d. d ∷ slice_index lower_digits (n % 16) ∷ []) (same_digit (n / 16 % 16) (omega arith))
+    ∙ ap (λ d. hex_digit (n / 16 % 16) ∷ d ∷ []) (same_digit (n % 16) (omega arith))
+
+bytes_digits : (k m n : ℕ) → m ≡ 2 * k → encode_lower (bytes_high_first k n) ≡ hex_digits m n
+unfolding encode_with
+bytes_digits zero zero n e = refl
+bytes_digits zero (suc m) n e = absurd (omega arith)
+bytes_digits (suc k) zero n e = absurd (omega arith)
+bytes_digits (suc k) (suc zero) n e = absurd (omega arith)
+bytes_digits (suc k) (suc (suc m)) n e =
+    let above : n / 256 ≡ n / 16 / 16 = omega arith in
+    let front = hex_digits m (n / 16 / 16) in
+    ap encode_lower (bytes_push k n) ∙ encode-append lower_digits (bytes_high_first k (n / 256)) (n % 256 ∷ [])
+    ∙ ap (λ t. t ++ encode_lower (n % 256 ∷ [])) (bytes_digits k m (n / 256) (omega arith) ∙ ap (hex_digits m) above)
+    ∙ ap (λ t. front ++ t) (two_digits n) ∙ sym (append_assoc front (hex_digit (n / 16 % 16) ∷ []) (hex_digit (n % 16) ∷ []))
+
+pub two_for_each_byte : (n : ℕ) → encode_lower (bytes_high_first 8 n) ≡ hexadecimal n
+unfolding hexadecimal
+two_for_each_byte n = bytes_digits 8 16 n refl
+
+ten_power : (k : ℕ) → 0 < 10 ^ k
+ten_power zero = omega arith
+ten_power (suc k) = let power : 10 ^ suc k ≡ 10 * 10 ^ k = pow-succ' 10 k in omega (arith, ten_power k)
+
+digits_least : (k n : ℕ) → 10 ^ k ≤ n → n < 2 ^ 64 → k < length (decimal n)
+digits_least zero n h b = decimal_nonempty n b
+digits_least (suc k) n h b =
+    let power : 10 ^ suc k ≡ 10 * 10 ^ k = pow-succ' 10 k in
+    let some : 0 < 10 ^ k = ten_power k in
+    let step : length (decimal n) ≡ length (decimal (n / 10)) + 1 = ap length (decimal_step n (omega arith) b) ∙ length_push (decimal (n / 10)) (48 + n % 10) in
+    omega (arith, step, digits_least k (n / 10) (omega arith) (omega arith))
+
+-- a number that k digits are too few for, and one more enough
+pub decimal_long : (k n : ℕ) → 10 ^ k ≤ n → n < 10 * 10 ^ k → n < 2 ^ 64 → length (decimal n) ≡ k + 1
+decimal_long k n h l b =
+    let power : 10 ^ suc k ≡ 10 * 10 ^ k = pow-succ' 10 k in
+    let most : length (decimal n) ≤ suc k = length-decimal-le (suc k) n (omega arith) (omega arith) b in
+    omega (arith, most, digits_least k n h b)
+
+pub zero_long : length (decimal 0) ≡ 1
+zero_long = ap length (decimal_digit 0 (omega arith))

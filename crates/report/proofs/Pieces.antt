@@ -1,20 +1,12 @@
 -- Texts written one after another at the front of a buffer. Assumes nothing.
-use Rattle.std.proofs.Common.{◌≡◌, ℕ, ◌+◌, ◌-◌, ◌<◌, ◌≤◌, List, [], ◌∷◌, ◌++◌, length, get_or, take, drop, set, sym, refl, ap, ◌∙◌, zero-add, arith}
+use Rattle.std.proofs.Common.{◌≡◌, ℕ, ◌+◌, ◌-◌, ◌≤◌, List, [], ◌++◌, length, take, drop, sym, refl, ap, ◌∙◌, arith}
 use borrow.Rule.Slice.PartMut.{put_mid}
-use Rattle.std.proofs.lemmas.List.{append_assoc, append-nil, length-append, length-drop, length-take-le, take_at, take_rest, drop_at, drop-drop, drop_more, length_push, set_at, take-append-drop, drop_all}
+use Rattle.std.proofs.lemmas.List.{append_assoc, append-nil, length-append, length-drop, length-take-le, take_at, take_rest, drop_at, drop-drop, take-append-drop, drop_all}
 use Rattle.records.specs.Sheets.{over}
 
 -- t behind s
 pub over_append : (s t xs : List ℕ) → s ++ over t (drop (length s) xs) ≡ over (s ++ t) xs
 over_append s t xs = simp (append_assoc, length-append, drop-drop)
-
--- a line feed behind t
-pub over_feed : (t xs : List ℕ) (n : ℕ) → n ≡ length t → length t < length xs → set (over t xs) n 10 ≡ over (t ++ (10 ∷ [])) xs
-over_feed t xs n is h =
-    let back = drop (length t + 1) xs in
-    let more : over t xs ≡ t ++ (get_or xs (length t) 0 ∷ back) = ap (λ ys. t ++ ys) (drop_more xs (length t) 0 h) in
-    let feed : set (over t xs) n 10 ≡ t ++ (10 ∷ back) = ap (λ ys. set ys n 10) more ∙ set_at t (get_or xs (length t) 0) back 10 n (sym is) in
-    feed ∙ sym (append_assoc t (10 ∷ []) back) ∙ ap (λ k. (t ++ (10 ∷ [])) ++ drop k xs) (sym (length_push t 10))
 
 -- the first `at` bytes of `out` are written, and `rest` put behind them makes `whole` over `before`
 pub record Left (whole rest : List ℕ) (at : ℕ) (out before : List ℕ) : Type 0 where
@@ -22,9 +14,6 @@ pub record Left (whole rest : List ℕ) (at : ℕ) (out before : List ℕ) : Typ
   pub room : length whole ≤ length before
   pub left : at + length rest ≡ length whole
   pub same : take at out ++ over rest (drop at out) ≡ over whole before
-
-pub left_none : (t xs : List ℕ) → length t ≤ length xs → Left t t 0 xs xs
-left_none t xs h = record { long = refl; room = h; left = zero-add (length t); same = refl }
 
 pub left_first : (s rest out xs : List ℕ) (n : ℕ) → length (s ++ rest) ≤ length xs → out ≡ over s xs → n ≡ length s → Left (s ++ rest) rest n out xs
 left_first s rest out xs n h e is =
@@ -44,9 +33,6 @@ pub left_room : (whole r t rest : List ℕ) (at : ℕ) (out before : List ℕ) �
 left_room whole r t rest at out before e l =
     let all : length (take (length out - at) (drop at out)) ≡ length out - at = ap length (take_rest out at) ∙ length-drop at out in
     omega (arith, ap length e ∙ length-append t rest)
-
-pub left_sum : (whole r t rest : List ℕ) (at n : ℕ) (out before : List ℕ) → r ≡ t ++ rest → Left whole r at out before → n ≡ length t → at + n ≤ length out
-left_sum whole r t rest at n out before e l is = omega (arith, ap length e ∙ length-append t rest)
 
 -- t in the rest of the buffer
 put_is : (t : List ℕ) (at : ℕ) (out part : List ℕ) → at ≤ length out → part ≡ over t (take (length out - at) (drop at out))

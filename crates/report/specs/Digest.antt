@@ -1,5 +1,5 @@
 -- What the product prints besides a frame's record. Assumes nothing.
-use Rattle.std.specs.Prelude.{◌≡◌, ℕ, ◌+◌, ◌<◌, ◌≤◌, List, [], ◌∷◌, ◌++◌, length, get_or, take, Ok, codes, decimal, slice_index_or}
+use Rattle.std.specs.Prelude.{◌≡◌, ℕ, ◌+◌, ◌<◌, ◌≤◌, List, [], ◌∷◌, ◌++◌, length, take, Ok, codes, decimal, slice_index_or}
 use Rattle.frames.specs.Refusals.{number_of}
 use Rattle.faults.specs.declared.fault.TextFault.{TextFault}
 use Rattle.faults.specs.Faults.{text_refusal, text_spot}
@@ -51,7 +51,7 @@ pub record PlaceReads (front whole : List ℕ) (i : ℕ) (e : Entry) : Type 0 wh
 -- each kept frame that may be taken in stands in the digest behind the places before it, and reads as it was kept
 abbrev pub ReadsBack : Counts → List Entry → Type 0
 ReadsBack c es =
-    (i : ℕ) (d : Entry) → i < length es → (get_or es i d).gain ≤ 4294967295 → InRange (get_or es i d).frame
+    (i : ℕ) (d : Entry) → i < length es → (slice_index_or es i d).gain ≤ 4294967295 → InRange (slice_index_or es i d).frame
     → PlaceReads (digest c (take i es)) (digest c es) i (slice_index_or es i d)
 
 -- why and where a text stopped

@@ -1,26 +1,21 @@
 -- Lines as the print-outs make them. Assumes nothing.
-use Rattle.std.specs.Prelude.{ℕ, zero, suc, ◌/◌, ◌%◌, List, [], ◌∷◌, ◌++◌, decimal}
+use Rattle.std.specs.Prelude.{ℕ, List, [], ◌∷◌, ◌++◌, decimal}
 use Rattle.std.specs.List.{flat_map}
-use Rattle.records.specs.Format.{hex_digit, hexadecimal}
-use Rattle.report.specs.declared.line.Form.{Form}
-use Rattle.report.specs.declared.line.Form.TheVariants.{Decimal, Hexadecimal}
+use Rattle.records.specs.Format.{hexadecimal}
 use Rattle.report.specs.declared.line.Line.{Line}
+use Rattle.report.specs.declared.value.Value.{Value}
+use Rattle.report.specs.declared.value.Value.TheVariants.{Decimal, Hexadecimal}
 
-abbrev pub written : Form → ℕ → List ℕ
-written Decimal n = decimal n
-written Hexadecimal n = hexadecimal n
+abbrev pub written : Value → List ℕ
+written (Decimal n) = decimal n
+written (Hexadecimal n) = hexadecimal n
 
 -- a value and the line feed behind it
-abbrev pub value_text : Form → ℕ → List ℕ
-value_text f n = written f n ++ (10 ∷ [])
+abbrev pub value_text : Value → List ℕ
+value_text v = written v ++ (10 ∷ [])
 
 abbrev pub line_text : Line → List ℕ
-line_text l = l.key.now ++ value_text l.form l.value
-
--- the last k digits of n to the base b
-abbrev pub last_digits : ℕ → ℕ → ℕ → List ℕ
-last_digits b zero n = []
-last_digits b (suc k) n = last_digits b k (n / b) ++ (hex_digit (n % b) ∷ [])
+line_text l = l.key.now ++ value_text l.value
 
 -- one line after another
 abbrev pub lines_text : List Line → List ℕ

@@ -1,7 +1,8 @@
 #![tactic(auto)]
 
 pub mod counts;
-mod digits;
+mod kept;
 mod line;
 pub mod print;
-mod sheet;
+mod value;
+mod written;

@@ -7,7 +7,6 @@ use Rattle.frames.specs.declared.entry.Entry.{Entry}
 use Rattle.frames.specs.declared.frame.Frame.{Frame}
 use Rattle.frames.specs.declared.refusal.Refusal.{Refusal}
 use Rattle.frames.specs.declared.refusal.Refusal.TheVariants.{ShortSheet}
-use Rattle.objectives.specs.Meanings.{ObjectiveLaws}
 use Rattle.faults.specs.declared.fault.TextFault.{TextFault}
 use Rattle.faults.specs.declared.fault.TextFault.TheVariants.{LongText}
 use Rattle.records.specs.Sheets.{over, Printed}
@@ -24,6 +23,8 @@ use Rattle.picker.specs.Offers.{Advanced, Answered, Offered, refusal_of, verdict
 use Rattle.picker.specs.Texts.{taken_in, text_answer, TextOffered}
 use Rattle.runs.specs.Histories.{entry_of, after, counts_after, entries_after, digest_after}
 use Rattle.runs.specs.Runs.{offer_answer}
+use Rattle.objectives.specs.declared.objective.Objective.{Ghosts as Objective}
+use Rattle.matroids.specs.declared.matroid.Matroid.{Ghosts as Matroid}
 
 entries_back : (es : List Entry) → map entry_of (pairs es) ≡ es
 entries_back [] = refl
@@ -37,54 +38,54 @@ printed_answer t before behind r h = go (leb (length t) (length before)) h
     go true a = a
     go false a = a
 
-module _ {W R : Type 0} (value residual : W → List Frame → ℕ) (admits : R → List Frame → Bool) where
+module _ {W R : Type 0} (O : Objective W) (M : Matroid R) where
   -- what an offer leaves as it was
-  pub offered_same : (p : Picker W R) (x : Frame) (r : Result Outcome Refusal) (q : Picker W R) → Offered value residual admits p x r q → (q.size.n ≡ p.size.n) × (q.matroid ≡ p.matroid) × ((s : List Frame) → value q.objective s ≡ value p.objective s)
+  pub offered_same : (p : Picker W R) (x : Frame) (r : Result Outcome Refusal) (q : Picker W R) → Offered O M p x r q → (q.size.n ≡ p.size.n) × (q.matroid ≡ p.matroid) × ((s : List Frame) → O.value q.objective s ≡ O.value p.objective s)
   offered_same p x r q o = go (refusal_of x p.seen) o
     where
-      go : (e : Option Refusal) → Answered value residual admits p x r q e → (q.size.n ≡ p.size.n) × (q.matroid ≡ p.matroid) × ((s : List Frame) → value q.objective s ≡ value p.objective s)
+      go : (e : Option Refusal) → Answered O M p x r q e → (q.size.n ≡ p.size.n) × (q.matroid ≡ p.matroid) × ((s : List Frame) → O.value q.objective s ≡ O.value p.objective s)
       go None a = (a.1.stands.size, a.1.stands.matroid, a.1.whole)
-      go (Some e) a = (ap (λ q. q.size.n) a.1, ap (λ q. q.matroid) a.1, λ s. ap (λ q. value q.objective s) a.1)
+      go (Some e) a = (ap (λ q. q.size.n) a.1, ap (λ q. q.matroid) a.1, λ s. ap (λ q. O.value q.objective s) a.1)
 
-  pub texted_same : (p : Picker W R) (t : List ℕ) (r : Result ℕ TextFault) (q : Picker W R) → TextOffered value residual admits p t r q → (q.size.n ≡ p.size.n) × (q.matroid ≡ p.matroid) × ((s : List Frame) → value q.objective s ≡ value p.objective s)
+  pub texted_same : (p : Picker W R) (t : List ℕ) (r : Result ℕ TextFault) (q : Picker W R) → TextOffered O M p t r q → (q.size.n ≡ p.size.n) × (q.matroid ≡ p.matroid) × ((s : List Frame) → O.value q.objective s ≡ O.value p.objective s)
   texted_same p t r q o = go (leb (length t) 65536) o
     where
-      go : (b : Bool) → MatchBool b ((r ≡ text_answer p.seen t) × Advanced value residual admits p (taken_in p.seen t) q) ((r ≡ Err LongText) × (q ≡ p)) → (q.size.n ≡ p.size.n) × (q.matroid ≡ p.matroid) × ((s : List Frame) → value q.objective s ≡ value p.objective s)
+      go : (b : Bool) → MatchBool b ((r ≡ text_answer p.seen t) × Advanced O M p (taken_in p.seen t) q) ((r ≡ Err LongText) × (q ≡ p)) → (q.size.n ≡ p.size.n) × (q.matroid ≡ p.matroid) × ((s : List Frame) → O.value q.objective s ≡ O.value p.objective s)
       go true a = (a.1.stands.size, a.1.stands.matroid, a.1.whole)
-      go false a = (ap (λ q. q.size.n) a.1, ap (λ q. q.matroid) a.1, λ s. ap (λ q. value q.objective s) a.1)
+      go false a = (ap (λ q. q.size.n) a.1, ap (λ q. q.matroid) a.1, λ s. ap (λ q. O.value q.objective s) a.1)
 
-  module _ (laws : (w : W) → ObjectiveLaws (value w) (residual w)) (h : List Called) (p : Picker W R) (k : Met value residual admits h p) where
+  module _ (h : List Called) (p : Picker W R) (k : Met O M h p) where
     seen_is : p.seen ≡ length (arrivals h)
     seen_is = k.seen ∙ omega arith
 
-    gain_is : (x : Frame) → residual p.objective (x ∷ []) ≡ gain_of (value p.objective) (after (value p.objective) (admits p.matroid) p.size.n h) x
+    gain_is : (x : Frame) → O.residual p.objective (x ∷ []) ≡ gain_of (O.value p.objective) (after (O.value p.objective) (M.admits p.matroid) p.size.n h) x
     gain_is x =
-        let a = (after (value p.objective) (admits p.matroid) p.size.n h).accepted in
-        k.left (x ∷ []) ∙ ap (λ v. v - value p.objective a) (parts_swap (value p.objective) (laws p.objective).whole.submodular.order a (x ∷ []))
+        let a = (after (O.value p.objective) (M.admits p.matroid) p.size.n h).accepted in
+        k.left (x ∷ []) ∙ ap (λ v. v - O.value p.objective a) (parts_swap (O.value p.objective) (O.laws p.objective).whole.submodular.order a (x ∷ []))
 
-    pub offered_answer : (x : Frame) (r : Result Outcome Refusal) (q : Picker W R) → Offered value residual admits p x r q → r ≡ offer_answer (refusal_of x (length (arrivals h))) (outcome_of (admits p.matroid) p.size.n (after (value p.objective) (admits p.matroid) p.size.n h).kept x (gain_of (value p.objective) (after (value p.objective) (admits p.matroid) p.size.n h) x))
+    pub offered_answer : (x : Frame) (r : Result Outcome Refusal) (q : Picker W R) → Offered O M p x r q → r ≡ offer_answer (refusal_of x (length (arrivals h))) (outcome_of (M.admits p.matroid) p.size.n (after (O.value p.objective) (M.admits p.matroid) p.size.n h).kept x (gain_of (O.value p.objective) (after (O.value p.objective) (M.admits p.matroid) p.size.n h) x))
     offered_answer x r q o =
         go (refusal_of x p.seen) o
-        ∙ ap₂ (λ s o. offer_answer (refusal_of x s) o) seen_is (ap₂ (λ es g. outcome_of (admits p.matroid) p.size.n es x g) k.kept (gain_is x))
+        ∙ ap₂ (λ s o. offer_answer (refusal_of x s) o) seen_is (ap₂ (λ es g. outcome_of (M.admits p.matroid) p.size.n es x g) k.kept (gain_is x))
       where
-        go : (e : Option Refusal) → Answered value residual admits p x r q e → r ≡ offer_answer e (verdict value residual admits p x)
+        go : (e : Option Refusal) → Answered O M p x r q e → r ≡ offer_answer e (verdict O M p x)
         go None a = a.0
         go (Some e) a = a.0
 
-    pub texted_answer : (t : List ℕ) (r : Result ℕ TextFault) (q : Picker W R) → TextOffered value residual admits p t r q → r ≡ cond (leb (length t) 65536) (text_answer (length (arrivals h)) t) (Err LongText)
+    pub texted_answer : (t : List ℕ) (r : Result ℕ TextFault) (q : Picker W R) → TextOffered O M p t r q → r ≡ cond (leb (length t) 65536) (text_answer (length (arrivals h)) t) (Err LongText)
     texted_answer t r q o = go (leb (length t) 65536) o ∙ ap (λ s. cond (leb (length t) 65536) (text_answer s t) (Err LongText)) seen_is
       where
-        go : (b : Bool) → MatchBool b ((r ≡ text_answer p.seen t) × Advanced value residual admits p (taken_in p.seen t) q) ((r ≡ Err LongText) × (q ≡ p)) → r ≡ cond b (text_answer p.seen t) (Err LongText)
+        go : (b : Bool) → MatchBool b ((r ≡ text_answer p.seen t) × Advanced O M p (taken_in p.seen t) q) ((r ≡ Err LongText) × (q ≡ p)) → r ≡ cond b (text_answer p.seen t) (Err LongText)
         go true a = a.0
         go false a = a.0
 
-    pub entries_is : entries_of p.table ≡ entries_after (value p.objective) (admits p.matroid) p.size.n h
+    pub entries_is : entries_of p.table ≡ entries_after (O.value p.objective) (M.admits p.matroid) p.size.n h
     entries_is = sym (entries_back (entries_of p.table)) ∙ ap (map entry_of) k.kept
 
-    pub counts_is : counts_of p ≡ counts_after (value p.objective) (admits p.matroid) p.size.n h
+    pub counts_is : counts_of p ≡ counts_after (O.value p.objective) (M.admits p.matroid) p.size.n h
     counts_is =
-        let f = value p.objective in
-        let st = after f (admits p.matroid) p.size.n h in
+        let f = O.value p.objective in
+        let st = after f (M.admits p.matroid) p.size.n h in
         let made : ℕ → ℕ → ℕ → ℕ → ℕ → Counts = λ l t s g d. record { size = p.size.n; kept = l; took = t; seen = s; gain = g; told = d } in
         let took-is : p.took ≡ length st.accepted = k.took ∙ omega arith in
         let told_is : p.told ≡ told f st.accepted = k.tells ∙ omega arith in
@@ -92,6 +93,6 @@ module _ {W R : Type 0} (value residual : W → List Frame → ℕ) (admits : R 
         ∙ ap₂ (λ t s. made (length st.kept) t s p.gain p.told) took-is seen_is
         ∙ ap₂ (λ g d. made (length st.kept) (length st.accepted) (length (arrivals h)) g d) k.gain told_is
 
-    pub digest_is : digest (counts_of p) (entries_of p.table) ≡ digest_after (value p.objective) (admits p.matroid) p.size.n h
+    pub digest_is : digest (counts_of p) (entries_of p.table) ≡ digest_after (O.value p.objective) (M.admits p.matroid) p.size.n h
     unfolding digest_after
     digest_is = ap₂ digest counts_is entries_is

@@ -1,5 +1,5 @@
 -- What each call of a run answers, and what the print-outs leave in the sheet, by the calls alone. Assumes nothing.
-use Rattle.std.specs.Prelude.{ℕ, Bool, cond, List, [], ◌∷◌, ◌++◌, map, length, Some, None, Ok, Err, Option, Result, nat_le}
+use Rattle.std.specs.Prelude.{ℕ, Bool, if◌then◌else◌, List, [], ◌∷◌, ◌++◌, map, length, Some, None, Ok, Err, Option, Result, nat_le}
 use Rattle.std.specs.Option.{ok_or}
 use Rattle.std.specs.List.{slice_get}
 use Rattle.theory.specs.Replay.{gain_of}
@@ -39,10 +39,10 @@ module _ (f : List Frame → ℕ) (adm : List Frame → Bool) (n : ℕ) where
   -- what a call answers after the calls h, where the sheet holds s
   abbrev pub answer_after : List Called → List ℕ → Called → Answer
   answer_after h s (offering x) = Offered (offer_answer (refusal_of x (length (arrivals h))) (outcome_of adm n (after f adm n h).kept x (gain_of f (after f adm n h) x)))
-  answer_after h s (reading t) = Texted (cond (nat_le (length t) 65536) (text_answer (length (arrivals h)) t) (Err LongText))
+  answer_after h s (reading t) = Texted (if nat_le (length t) 65536 then text_answer (length (arrivals h)) t else Err LongText)
   answer_after h s (looking i) = Looked (ok_or (slice_get (entries_after f adm n h) i) NoPlace)
   answer_after h s counting = Counted (counts_after f adm n h)
-  answer_after h s printing = Printed (cond (nat_le (length (digest_after f adm n h)) (length s)) (Ok (length (digest_after f adm n h))) (Err ShortSheet))
+  answer_after h s printing = Printed (if nat_le (length (digest_after f adm n h)) (length s) then Ok (length (digest_after f adm n h)) else Err ShortSheet)
   answer_after h s clearing = Cleared
 
   -- what the sheet holds after a call: a print-out that it has room for stands at its front
@@ -51,7 +51,7 @@ module _ (f : List Frame → ℕ) (adm : List Frame → Bool) (n : ℕ) where
   sheet_after h s (reading t) = s
   sheet_after h s (looking i) = s
   sheet_after h s counting = s
-  sheet_after h s printing = cond (nat_le (length (digest_after f adm n h)) (length s)) (over (digest_after f adm n h) s) s
+  sheet_after h s printing = if nat_le (length (digest_after f adm n h)) (length s) then over (digest_after f adm n h) s else s
   sheet_after h s clearing = s
 
   -- the calls cs, after the calls h: what the sheet holds then, and the last answer

@@ -19,7 +19,7 @@ pub fn carry_out<W: Objective, R: Matroid>(
     call: &Call<'_>,
     sheet: &mut [u8],
 ) -> Answer
-    ensures { Carried W.Objective.value W.Objective.residual R.Matroid.admits (called call.now) picker.old sheet.old result picker.new sheet.new }
+    ensures { Carried W.Objective R.Matroid (called call.now) picker.old sheet.old result picker.new sheet.new }
 {
     match call {
         Call::Offer(x) => Answer::Offered(picker.offer(*x)),
@@ -45,7 +45,7 @@ pub fn run<W: Objective, R: Matroid>(
     ensures size { result.picker.size.n ≡ size.n }
     ensures matroid { result.picker.matroid ≡ matroid }
     ensures value { (s : List FrameOf) → W.Objective.value result.picker.objective s ≡ W.Objective.value objective s }
-    ensures met { Met W.Objective.value W.Objective.residual R.Matroid.admits (history calls.now) result.picker }
+    ensures met { Met W.Objective R.Matroid (history calls.now) result.picker }
     ensures label { Label (W.Objective.value objective) (R.Matroid.admits matroid) size.n (arrivals (history calls.now)) (held result.picker.table) result.picker.took }
     ensures bounds { Beside (W.Objective.value objective) (R.Matroid.admits matroid) size.n (arrivals (history calls.now)) (held result.picker.table) result.picker.took result.picker.gain result.picker.told }
     ensures left { (sheet.new, result.answer) ≡ run_on (W.Objective.value objective) (R.Matroid.admits matroid) size.n [] (history calls.now) sheet.old NoneOf }

@@ -1,23 +1,15 @@
 -- Bytes read call by call. Assumes nothing.
-use Rattle.std.proofs.Common.{◌≡◌, ℕ, ◌+◌, ◌-◌, ◌*◌, ◌^◌, ◌<◌, ◌≤◌, List, [], ◌∷◌, ◌++◌, length, drop, Some, None, sym, refl, ap, ◌∙◌, subst, ap₂, arith}
+use Rattle.std.proofs.Common.{◌≡◌, ℕ, ◌+◌, ◌*◌, ◌^◌, ◌<◌, ◌≤◌, List, [], ◌∷◌, ◌++◌, length, drop, Some, None, sym, refl, ap, ◌∙◌, ap₂, arith}
 use Rattle.std.specs.List.{flat_map}
-use Rattle.std.proofs.lemmas.List.{drop_all, drop-drop, length-append, length-drop}
+use Rattle.std.proofs.lemmas.List.{length-append, length-drop, nil_from_length}
 use Rattle.picker.specs.Calls.{Called, offering, reading, looking, counting, printing, clearing}
 use Rattle.runs.specs.Runs.{called}
 use Rattle.encoding.specs.Answers.{fixed_of}
 use Rattle.encoding.specs.Reading.{Head, Reads}
 use Rattle.encoding.specs.Requests.{Requested, offer, text, look_up, counts, print_out, clear, called_of, room_of, bytes_of, Fits, Encodes}
 use Rattle.encoding.specs.declared.request.Request.{Request}
+use Rattle.encoding.proofs.Reader.{some_bytes}
 use Rattle.serving.specs.Serving.{due_of, due_all, Due}
-
--- a call takes a byte or more
-pub some_bytes : (q : Requested) → 1 ≤ length (bytes_of q)
-some_bytes (offer x) = omega arith
-some_bytes (text t) = omega arith
-some_bytes (look_up i) = omega arith
-some_bytes counts = omega arith
-some_bytes (print_out n) = omega arith
-some_bytes clear = omega arith
 
 pub few_fixed : (c : Called) → fixed_of c ≤ 32
 few_fixed (offering x) = omega arith
@@ -35,17 +27,10 @@ small_room counts h = omega arith
 small_room (print_out n) h = h
 small_room clear h = omega arith
 
--- bytes that are calls are at their end, or begin with one
-none_left : (ds : List Requested) → flat_map bytes_of ds ≡ [] → ds ≡ []
-none_left [] e = refl
-none_left (d ∷ ds) e = absurd (omega (arith, some_bytes d, length-append (bytes_of d) (flat_map bytes_of ds), ap length e))
-
-pub ended : (ds : List Requested) (s : List ℕ) (i : ℕ) → length s ≤ i → Encodes ds (drop i s) → ds ≡ []
-ended ds s i h e = none_left ds (e.joins ∙ drop_all i s h)
-
-pub no_call : (ds : List Requested) (t : List ℕ) → 0 < length t → Reads t None → Encodes ds t → ⊥
-no_call [] t h none e = omega (arith, ap length e.joins)
-no_call (d ∷ ds) t h none e = none d (flat_map bytes_of ds) e.fit.0 (sym e.joins)
+-- bytes that begin with no call are the calls of no list but the empty one
+pub no_calls : (ds : List Requested) (t : List ℕ) → Reads t None → Encodes ds t → ds ≡ []
+no_calls [] t none e = refl
+no_calls (d ∷ ds) t none e = absurd (none d (flat_map bytes_of ds) e.fit.0 (sym e.joins))
 
 -- what is behind the first call
 pub record Behind (t : List ℕ) (len : ℕ) (q : Requested) (ds : List Requested) : Type 0 where
@@ -53,9 +38,9 @@ pub record Behind (t : List ℕ) (len : ℕ) (q : Requested) (ds : List Requeste
   pub first : ds ≡ q ∷ rest
   pub encodes : Encodes rest (drop len t)
 
-pub behind : (t : List ℕ) (x : Request) (q : Requested) (ds : List Requested) → 0 < length t → Head t x q → Encodes ds t → Behind t x.length q ds
-behind t x q [] h k e = absurd (omega (arith, ap length e.joins))
-behind t x q (d ∷ ds) h k e =
+pub behind : (t : List ℕ) (x : Request) (q : Requested) (ds : List Requested) → Head t x q → Encodes ds t → Behind t x.length q ds
+behind t x q [] k e = absurd (omega (arith, ap length (e.joins ∙ k.back), length-append (bytes_of q) (drop x.length t), some_bytes q))
+behind t x q (d ∷ ds) k e =
     let is = k.only d (flat_map bytes_of ds) e.fit.0 (sym e.joins) in
     record { rest = ds; first = ap (λ d. d ∷ ds) is.0; encodes = record { joins = is.1; fit = e.fit.1 } }
 
@@ -69,50 +54,39 @@ pub head_due : (t : List ℕ) (x : Request) (q : Requested) → Head t x q → f
 head_due t x q k = ap₂ (λ c n. fixed_of c + n) k.call k.room
 
 module _ (s : List ℕ) where
-  -- the calls of the first `at` bytes take `due` bytes of answers, and those behind are calls just where all are
-  pub record Walk (at due : ℕ) : Type 0 where
-    pub within : at ≤ length s
-    pub small : due ≤ 2 ^ 33 * at
-    pub back : (ds : List Requested) → Encodes ds (drop at s) → (cs : List Requested) × Encodes cs s × (due + due_all ds ≡ due_all cs)
-    pub on : (cs : List Requested) → Encodes cs s → (ds : List Requested) × Encodes ds (drop at s)
+  -- the calls before the bytes t take `due` bytes of answers, and t are calls just where all the bytes are
+  pub record Walk (t : List ℕ) (due : ℕ) : Type 0 where
+    pub small : due + 2 ^ 33 * length t ≤ 2 ^ 33 * length s
+    pub back : (ds : List Requested) → Encodes ds t → (cs : List Requested) × Encodes cs s × (due + due_all ds ≡ due_all cs)
+    pub on : (cs : List Requested) → Encodes cs s → (ds : List Requested) × Encodes ds t
 
-  pub walk_none : Walk 0 0
-  walk_none = record { within = omega arith; small = omega arith; back = λ ds e. (ds, e, omega arith); on = λ cs e. (cs, e) }
+  pub walk_none : Walk s 0
+  walk_none = record { small = omega arith; back = λ ds e. (ds, e, omega arith); on = λ cs e. (cs, e) }
 
-  pub walk_more : (at due : ℕ) (x : Request) (q : Requested) → at < length s → Walk at due → Head (drop at s) x q → Walk (at + x.length) (due + (fixed_of (called x.call) + x.room))
-  walk_more at due x q h w k =
-      let t = drop at s in
-      let left : length t ≡ length s - at = length-drop at s in
-      let some : 0 < length t = omega arith in
-      let long = head_long t x q k in
-      let one : 1 ≤ x.length = omega (arith, k.length, some_bytes q) in
+  pub walk_more : (t : List ℕ) (due : ℕ) (x : Request) → Walk t due → (q : Requested) × Head t x q → Walk (drop x.length t) (due + (fixed_of (called x.call) + x.room))
+  walk_more t due x w (q, k) =
       let is = head_due t x q k in
-      let same : drop x.length t ≡ drop (at + x.length) s = drop-drop x.length at s in
       record {
-        within = omega arith;
-        small = omega (arith, w.small, is, few_fixed (called_of q), small_room q k.fits);
+        small = omega (arith, w.small, is, few_fixed (called_of q), small_room q k.fits, k.length, some_bytes q, head_long t x q k, length-drop x.length t);
         back = λ ds e.
-            let b = w.back (q ∷ ds) (before t x q ds k (subst (Encodes ds) (sym same) e)) in
+            let b = w.back (q ∷ ds) (before t x q ds k e) in
             (b.0, b.1, omega (arith, is, b.2));
         on = λ cs e.
             let b = w.on cs e in
-            let r = behind t x q b.0 some k b.1 in
-            (r.rest, subst (Encodes r.rest) same r.encodes);
+            let r = behind t x q b.0 k b.1 in
+            (r.rest, r.encodes);
       }
 
-  pub walk_next : (at due k : ℕ) (x : Request) (t : List ℕ) → t ≡ drop at s → k ≡ fixed_of (called x.call) → at < length s → Walk at due → (q : Requested) × Head t x q → Walk (at + x.length) (due + (k + x.room))
-  walk_next at due k x t e is h w (q, r) =
-      subst (λ k. Walk (at + x.length) (due + (k + x.room))) (sym is) (walk_more at due x q h w (subst (λ t. Head t x q) e r))
-
   -- what is behind begins with no call, so the whole is no calls
-  pub walk_stopped : (at due : ℕ) (t : List ℕ) → t ≡ drop at s → at < length s → Walk at due → Reads t None → Due s None
-  walk_stopped at due t e h w none cs k =
+  pub walk_stopped : (t : List ℕ) (due : ℕ) → 0 < length t → Walk t due → Reads t None → Due s None
+  walk_stopped t due some w none cs k =
       let b = w.on cs k in
-      no_call b.0 (drop at s) (omega (arith, length-drop at s)) (subst (λ t. Reads t None) e none) b.1
+      let ended = no_calls b.0 t none b.1 in
+      omega (arith, ap length (sym (ap (flat_map bytes_of) ended) ∙ b.1.joins))
 
-  pub walk_all : (at due : ℕ) → length s ≤ at → Walk at due → Due s (Some due)
-  walk_all at due h w =
-      let b = w.back [] (record { joins = sym (drop_all at s h); fit = tt }) in
+  pub walk_all : (t : List ℕ) (due : ℕ) → length t ≡ 0 → Walk t due → Due s (Some due)
+  walk_all t due none w =
+      let b = w.back [] (record { joins = sym (nil_from_length t none); fit = tt }) in
       (b.0, b.1, omega (arith, b.2))
 
 -- how much the loop may still add

@@ -1,10 +1,12 @@
 -- Whole runs: what is returned, and what the answers' buffer holds then. Assumes nothing.
-use Rattle.std.specs.Prelude.{◌≡◌, ℕ, ◌+◌, ◌*◌, min, Bool, cond, List, [], ◌∷◌, ◌++◌, length, take, drop, Some, None, Option, nat_le}
+use Rattle.std.specs.Prelude.{◌≡◌, ℕ, ◌+◌, min, Bool, if◌then◌else◌, List, [], ◌∷◌, ◌++◌, length, take, drop, Some, None, Ok, Err, Option, Result, nat_le}
 use Rattle.frames.specs.declared.frame.Frame.{Frame}
 use Rattle.picker.specs.Calls.{Called}
 use Rattle.runs.specs.Runs.{answer_after, sheet_after}
 use Rattle.encoding.specs.Answers.{answer_bytes, fixed_of}
 use Rattle.encoding.specs.Requests.{Requested, called_of, room_of, Encodes}
+use Rattle.serving.specs.declared.refusal.RunRefusal.{RunRefusal}
+use Rattle.serving.specs.declared.refusal.RunRefusal.TheVariants.{BadCalls, ShortAnswers}
 
 -- how many bytes the answer to a call takes
 abbrev pub due_of : Requested → ℕ
@@ -34,14 +36,14 @@ module _ (f : List Frame → ℕ) (adm : List Frame → Bool) (n : ℕ) where
   answered_all h [] s = s
   answered_all h (q ∷ qs) s = answered h (called_of q) (take (due_of q) s) ++ answered_all (h ++ called_of q ∷ []) qs (drop (due_of q) s)
 
-  -- what a run of the calls returns, and leaves of a buffer that held s: 13 for bytes that are no calls, 14 for a buffer
-  -- shorter than the answers due, or for answers of 2 ^ 48 bytes or more
-  unfoldable pub ran_of : Option (List Requested) → List ℕ → ℕ × List ℕ
-  ran_of None s = (13, s)
-  ran_of (Some cs) s = cond (nat_le (due_all cs) (min (length s) 281474976710655)) (65536 * due_all cs, answered_all [] cs s) (14, s)
+  -- what a run of the calls returns, and leaves of a buffer that held s: it is refused for bytes that are no calls, and
+  -- for a buffer shorter than the answers due, or for answers of 2 ^ 48 bytes or more
+  unfoldable pub ran_of : Option (List Requested) → List ℕ → Result ℕ RunRefusal × List ℕ
+  ran_of None s = (Err BadCalls, s)
+  ran_of (Some cs) s = if nat_le (due_all cs) (min (length s) 281474976710655) then (Ok (due_all cs), answered_all [] cs s) else (Err ShortAnswers, s)
 
   -- a run of the calls that the bytes are returned r, and left `after` of a buffer that held `before`
-  pub record Served (bytes before : List ℕ) (r : ℕ) (after : List ℕ) : Type 0 where
+  pub record Served (bytes before : List ℕ) (r : Result ℕ RunRefusal) (after : List ℕ) : Type 0 where
     pub calls : Option (List Requested)
     pub decodes : Decodes bytes calls
     pub ran : (r, after) ≡ ran_of calls before

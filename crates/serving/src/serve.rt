@@ -7,6 +7,7 @@ ghost use Rattle.serving.specs.Answering.{Answered};
 ghost use Rattle.serving.specs.Promise.{Promises};
 ghost use Rattle.serving.specs.Serving.{Due, Served, answered_all, due_all};
 
+use crate::refusal::RunRefusal;
 use encoding::answer::put_answer;
 use encoding::read::read_request;
 use encoding::request::Request;
@@ -16,23 +17,19 @@ use objectives::objective::Objective;
 use picker::picker::Picker;
 use runs::run::carry_out;
 
-const BAD_CALLS: u64 = 13;
-
-const SHORT_ANSWERS: u64 = 14;
-
-// The most bytes that the returned number can tell.
+// The most bytes of answers: users are told how many they are by a number of 48 bits.
 const LONGEST: usize = 281_474_976_710_655;
 
 // How many bytes the answers take, if the bytes are calls.
 fn answers_due(calls: &[u8]) -> Option<u128>
     ensures { Due calls.now result }
 {
-    let mut from = 0;
+    let mut rest = calls;
     let mut due: u128 = 0;
-    while from < calls.len() {
-        let request = read_request(&calls[from..])?;
+    while !rest.is_empty() {
+        let request = read_request(rest)?;
         due += (request.fixed() + request.room) as u128;
-        from += request.length;
+        rest = &rest[request.length..];
     }
     Some(due)
 }
@@ -44,7 +41,7 @@ fn answer<W: Objective, R: Matroid>(
     window: &mut [u8],
 )
     requires { fixed_of (called request.now.call) ≤ length window.old }
-    ensures { Answered W.Objective.value W.Objective.residual R.Matroid.admits (called request.now.call) picker.old window.old picker.new window.new }
+    ensures { Answered W.Objective R.Matroid (called request.now.call) picker.old window.old picker.new window.new }
 {
     let fixed = request.fixed();
     let said = carry_out(picker, &request.call, &mut window[fixed..]);
@@ -57,43 +54,41 @@ fn answer_all<W: Objective + Drop, R: Matroid + Drop>(
     calls: &[u8],
     answers: &mut [u8],
 )
-    requires { Met W.Objective.value W.Objective.residual R.Matroid.admits [] picker }
+    requires { Met W.Objective R.Matroid [] picker }
     ensures { (cs : List Requested) → Encodes cs calls.now → due_all cs ≤ length answers.old → answers.new ≡ answered_all (W.Objective.value picker.objective) (R.Matroid.admits picker.matroid) picker.size.n [] cs answers.old }
 {
-    let mut from = 0;
+    let mut rest = calls;
+    // A count, since a check forgets what was written to a `&mut` slice that shrinks in a loop.
     let mut to = 0;
-    while from < calls.len() {
-        let Some(request) = read_request(&calls[from..]) else {
-            return;
-        };
+    while let Some(request) = read_request(rest) {
         let due = request.fixed() + request.room;
         if due > answers.len() - to {
             return;
         }
         answer(&mut picker, &request, &mut answers[to..to + due]);
-        from += request.length;
+        rest = &rest[request.length..];
         to += due;
     }
 }
 
-// A whole run: the calls and the answers as bytes.
+// A whole run: the calls and the answers as bytes. It tells how many bytes the answers take.
 pub fn serve<W: Objective + Drop, R: Matroid + Drop>(
     size: Size,
     objective: W,
     matroid: R,
     calls: &[u8],
     answers: &mut [u8],
-) -> u64
+) -> Result<u64, RunRefusal>
     ensures served { Served (W.Objective.value objective) (R.Matroid.admits matroid) size.n calls.now answers.old result answers.new }
     ensures promise { Promises (W.Objective.value objective) (R.Matroid.admits matroid) size.n }
 {
     let Some(due) = answers_due(calls) else {
-        return BAD_CALLS;
+        return Err(RunRefusal::BadCalls);
     };
     let room = answers.len().min(LONGEST);
     if due > room as u128 {
-        return SHORT_ANSWERS;
+        return Err(RunRefusal::ShortAnswers);
     }
     answer_all(Picker::open(size, objective, matroid), calls, answers);
-    65_536 * due as u64
+    Ok(due as u64)
 }

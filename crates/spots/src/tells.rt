@@ -1,14 +1,14 @@
-ghost use Rattle.std.specs.Prelude.{◌≡◌};
 ghost use Rattle.spots.specs.Faults.{line_refusal, line_spot};
 
-use crate::fault::{LineFault, Spot};
+use crate::fault::{Fault, LineFault, Spot};
 use frames::refusal::Refusal;
 
-impl LineFault {
-    // Why the line was refused.
-    pub fn refusal(self) -> Refusal
-        ensures { result ≡ line_refusal self }
-    {
+impl Fault for LineFault {
+    ghost refused_as = { line_refusal };
+
+    ghost stopped_at = { line_spot };
+
+    fn refusal(self) -> Refusal {
         match self {
             LineFault::WrongKey(_) => Refusal::WrongKey,
             LineFault::BadForm(_) => Refusal::BadForm,
@@ -17,10 +17,7 @@ impl LineFault {
         }
     }
 
-    // Where the text stopped.
-    pub fn spot(self) -> Spot
-        ensures { result ≡ line_spot self }
-    {
+    fn spot(self) -> Spot {
         match self {
             LineFault::WrongKey(spot)
             | LineFault::BadForm(spot)

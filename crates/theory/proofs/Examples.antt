@@ -1,12 +1,12 @@
 -- The laws hold of a small case, and a replay of it computes. Assumes nothing.
-use Rattle.std.proofs.Common.{◌≡◌, ℕ, suc, min, Bool, true, cond, eqb, leb, List, [], ◌∷◌, length, sum_by, count_by, refl, arith}
+use Rattle.std.proofs.Common.{◌≡◌, ℕ, suc, min, Bool, true, eqb, leb, List, [], ◌∷◌, length, sum_by, refl, arith}
 use Rattle.std.proofs.lemmas.List.Sums.{sum_by-cons}
 use Rattle.std.proofs.lemmas.Bool.{eqb-true, eq-eqb, leb-true, le-leb}
 use Rattle.theory.specs.Bag.{Same}
 use Rattle.theory.specs.Laws.{Submodular, MatroidLaws}
 use Rattle.theory.specs.Replay.{replay}
 use Rattle.theory.specs.Promise.{Promised}
-use Rattle.theory.proofs.Orders.{orderless_after, orderless_sum_by, orderless_length, occurs_more}
+use Rattle.theory.proofs.Orders.{orderless_after, orderless_sum_by, orderless_length, occurs_more, count_by_all}
 use Rattle.theory.proofs.Theorem.{stands}
 
 -- a frame is a number, and the value of a bag is its sum, ten at most
@@ -27,10 +27,6 @@ total_laws = record {
   more = λ x s. omega (arith, sum_by-cons (λ (y : ℕ). y) x s);
   falls = λ x y s. omega (arith, sum_by-cons (λ (y : ℕ). y) x (y ∷ s), sum_by-cons (λ (y : ℕ). y) x s, sum_by-cons (λ (y : ℕ). y) y s);
 }
-
-count_by_all : (s : List ℕ) → count_by (λ x. true) s ≡ length s
-count_by_all [] = refl
-count_by_all (x ∷ s) = omega (arith, count_by_all s, sum_by-cons (λ (y : ℕ). cond true 1 0) x s)
 
 two_laws : MatroidLaws eqb two
 two_laws = record {

@@ -58,3 +58,8 @@ module _ {A : Type 0} {same : A → A → Bool} (eq : Same same) (p : A → Bool
           let front = to_front eq (sum_by (λ x. cond (p x) 1 0)) (orderless_sum_by (λ x. cond (p x) 1 0)) y s has in
           let got = ih (omega (arith, h, front, sum_by-cons (λ x. cond (p x) 1 0) y (without same y s), sum_by-cons (λ x. cond (p x) 1 0) y t)) in
           (got.0, got.1, omega (arith, got.2, count_without eq got.0 y s has))
+
+-- every element passes the test that each one passes
+pub count_by_all : {A : Type 0} (s : List A) → count_by (λ x. true) s ≡ length s
+count_by_all [] = refl
+count_by_all {A} (x ∷ s) = omega (arith, count_by_all s, sum_by-cons (λ (y : A). cond true 1 0) x s)

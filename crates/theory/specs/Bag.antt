@@ -1,5 +1,5 @@
 -- Lists as bags: how often an element occurs, and lists of distinct places. Assumes nothing.
-use Rattle.std.specs.Prelude.{◌≡◌, ℕ, ◌+◌, ◌≤◌, Bool, true, cond, ◌≢◌, List, [], ◌∷◌, ◌++◌, map, length, Some}
+use Rattle.std.specs.Prelude.{◌≡◌, ℕ, ◌+◌, ◌≤◌, Bool, true, ◌≢◌, List, [], ◌∷◌, ◌++◌, map, length, Some, if◌then◌else◌}
 use Rattle.std.specs.List.{AllByRecursion, slice_get}
 
 -- `same` tells equal elements from others
@@ -10,7 +10,7 @@ pub record Same {A : Type 0} (same : A → A → Bool) : Type 0 where
 -- how often x occurs
 abbrev pub count : {A : Type 0} → (A → A → Bool) → A → List A → ℕ
 count same x [] = 0
-count same x (y ∷ s) = cond (same x y) 1 0 + count same x s
+count same x (y ∷ s) = (if same x y then 1 else 0) + count same x s
 
 -- no element occurs more often in s than in t
 abbrev pub Within : {A : Type 0} → (A → A → Bool) → List A → List A → Type 0

@@ -1,4 +1,4 @@
-use Rattle.std.proofs.Common.{◌≡◌, ℕ, List, [], ◌∷◌, Some, None, Ok, Option, Result, refl, ap, subst, arith}
+use Rattle.std.proofs.Common.{◌≡◌, ℕ, List, [], ◌∷◌, Some, None, Ok, Option, Result, ap, subst}
 use Rattle.frames.specs.declared.frame.Frame.{Frame}
 use Rattle.frames.specs.declared.refusal.Refusal.{Refusal}
 use Rattle.frames.specs.declared.setting.SettingFault.{SettingFault}
@@ -17,7 +17,7 @@ same_ok : (m n : ℕ) → ◌≡◌ {A = Result ℕ Refusal} (Ok m) (Ok n) → m
 same_ok m n e = cc
 
 no_fault : (e : SettingFault) → ◌≡◌ {A = Option SettingFault} (Some e) None → ⊥
-no_fault e h = let z : ◌≡◌ {A = ℕ} 0 1 = cc in omega arith
+no_fault e h = cc
 
 -- what is promised of the run for settings, with what it leaves in the sheet and answers
 abbrev Ran : List ℕ → List ℕ → ℕ → List ℕ → List ℕ → List ℕ → Option Answer → List (Frame × ℕ) → ℕ → Type 0
@@ -34,13 +34,13 @@ unfolding weights caps
 returns c =
     let size : c.in_ok-size.size.n ≡ places = same_ok _ places c.in_ok-size.ensures in
     let p = c.run.result.picker in
-    let both = ran_at c.args.text.now c.args.sheet.now c.run.new.sheet c.run.result.answer (held p.table) p.took {ws' = weights} {cs' = caps} c.in-Ok.ensures.accepted.0 c.in-Ok-new.ensures.accepted size (c.run.ensures.label, c.run.ensures.left) in
+    let both = ran_at c.args.text.now c.args.sheet.now c.run.new.sheet c.run.result.answer (held p.table) p.took {ws' = weights} {cs' = caps} c.in_ok-objective.ensures.accepted.0 c.in_ok-matroid.ensures.accepted size (c.run.ensures.label, c.run.ensures.left) in
     record { ran = (both.0, ap (λ r. r.1) both.1); sheet = ap (λ r. r.0) both.1 }
 
-pub returns-in-Err : goal.returns-in-Err
+pub returns-in_err-objective-clause-ran : goal.returns-in_err-objective-clause-ran
 unfolding numbers_fault
-returns-in-Err c = record { ran = no_fault c.in-Err.fault c.in-Err.ensures.fault; sheet = refl }
+returns-in_err-objective-clause-ran c = absurd (no_fault c.in_err-objective.field-0.0 c.in_err-objective.ensures.fault)
 
-pub returns-in-Err-new : goal.returns-in-Err-new
+pub returns-in_err-matroid-clause-ran : goal.returns-in_err-matroid-clause-ran
 unfolding numbers_fault
-returns-in-Err-new c = record { ran = no_fault c.in-Err-new.fault c.in-Err-new.ensures.fault; sheet = refl }
+returns-in_err-matroid-clause-ran c = absurd (no_fault c.in_err-matroid.field-0.0 c.in_err-matroid.ensures.fault)

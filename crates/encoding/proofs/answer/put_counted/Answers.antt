@@ -1,6 +1,4 @@
-use Rattle.std.proofs.Common.{◌++◌, ◌∙◌, ap₂}
-use Rattle.encoding.specs.Answers.{placed}
 use Rattle.encoding.proofs.answer.put_counted.Goals as goal
 
 pub returns : goal.returns
-returns c = c.put_both.ensures ∙ ap₂ (λ a b. placed (a ++ b) c.args.out.now) c.number_bytes.ensures c.gain_bytes.ensures
+returns c = simp (c.put.ensures.out, c.to_le_bytes.ensures, c.to_le_bytes-2.ensures, c.to_le_bytes-3.ensures, c.to_le_bytes-4.ensures, c.to_le_bytes-5.ensures, c.to_le_bytes-6.ensures)

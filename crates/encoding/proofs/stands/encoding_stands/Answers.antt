@@ -1,4 +1,4 @@
-use Rattle.encoding.proofs.Heads.{one_reading}
+use Rattle.encoding.proofs.Reader.{one_reading}
 use Rattle.encoding.proofs.stands.encoding_stands.Goals as goal
 
 pub returns : goal.returns

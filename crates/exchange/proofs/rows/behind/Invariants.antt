@@ -1,5 +1,5 @@
-use Rattle.std.proofs.Common.{◌≡◌, ◌+◌, ◌++◌, map, length, take}
+use Rattle.std.proofs.Common.{◌≡◌, ◌∷◌, map, take}
 use Rattle.exchange.proofs.rows.behind.Given as goal
 
-abbrev pub invariant-loop-i : goal.invariant-loop-i
-invariant-loop-i l = (length l.row ≡ 49) × (take (l.i + 1) l.row ≡ take 1 l.initial.row ++ map (λ e. e.frame) (take l.i l.entries))
+abbrev pub invariant-loop-entry : goal.invariant-loop-entry
+invariant-loop-entry l = l.row.items ≡ l.fn.x ∷ map (λ e. e.frame) (take l.entry-index l.entry-items)

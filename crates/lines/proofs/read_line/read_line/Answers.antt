@@ -1,14 +1,11 @@
-use Rattle.std.proofs.Common.{◌≡◌, ℕ, ◌+◌, ◌-◌, length, take, Err, sym, ap, ◌∙◌, subst, arith, length-drop, length-take, rules}
+use Rattle.std.proofs.Common.{◌≡◌, ℕ, ◌+◌, ◌-◌, length, take, Err, sym, ap, ◌∙◌, subst, arith}
 use Rattle.records.specs.Format.{key_bytes}
 use Rattle.lines.specs.Lines.{Taken, Judged, LineRead}
 use Rattle.spots.specs.Faults.{spot}
 use Rattle.spots.specs.declared.fault.Spot.{Spot}
 use Rattle.records.specs.Reading.{due, key_amiss, end_amiss, before_feed, read_line, line_of}
-use Rattle.lines.proofs.Lined.{line_no_key, line_no_end, value_place, due_found, feed_within, line_read, line_means}
+use Rattle.lines.proofs.Lined.{line_no_key, line_no_end, value_place, due_found, line_read, line_means}
 use Rattle.lines.proofs.read_line.read_line.Goals as goal
-
-pub key_fault-requires : goal.key_fault-requires
-key_fault-requires c = record { fits = λ h. omega (arith, ap length c.text_from-s.ensures, length-drop c.args.at c.args.text.now) }
 
 pub returns-in_default : goal.returns-in_default
 returns-in_default c =
@@ -16,32 +13,14 @@ returns-in_default c =
     let p : LineRead c.args.key c.args.text.now c.args.at c.args.place.«record» c.args.place.start (Err c.key_fault.result) = (key_amiss (key_bytes c.args.key) s, ap (read_line c.args.key) (sym c.text_from-s.ensures) ∙ line_no_key c.args.key s c.in_default.ensures, c.key_fault.ensures) in
     record { reads = p; means = line_means c.args.key c.args.text.now c.args.at c.args.place.«record» c.args.place.start (Err c.key_fault.result) p }
 
-pub end_fault-requires : goal.end_fault-requires
-end_fault-requires c =
-    let h = c.in-Some.ensures in
-    omega (arith, value_place c.args.key c.text_from-s.result.now c.in-Some.rest.now h.0 h.1 c.args.text.now c.args.at c.text_from-s.ensures)
-
 pub returns-in_default-line_feed : goal.returns-in_default-line_feed
 returns-in_default-line_feed c =
     let k = c.args.key in
     let rest = c.in-Some.rest.now in
     let h = c.in-Some.ensures in
-    let none = subst (λ (m : ℕ). before_feed (take (m + 1) rest) ≡ length (take (m + 1) rest)) c.longest_of.ensures c.in_default-line_feed.ensures in
+    let none = subst (λ (m : ℕ). before_feed (take (m + 1) rest) ≡ length (take (m + 1) rest)) c.longest.ensures c.in_default-line_feed.ensures in
     let p : LineRead c.args.key c.args.text.now c.args.at c.args.place.«record» c.args.place.start (Err c.end_fault.result) = (end_amiss (due k) rest, ap (read_line k) (sym c.text_from-s.ensures) ∙ line_no_end k c.text_from-s.result.now rest h.0 h.1 none, c.end_fault.ensures) in
     record { reads = p; means = line_means c.args.key c.args.text.now c.args.at c.args.place.«record» c.args.place.start (Err c.end_fault.result) p }
-
-pub overflow_sub-value : goal.overflow_sub-value
-overflow_sub-value c =
-    let h = c.in-Some.ensures in
-    omega (arith, value_place c.args.key c.text_from-s.result.now c.in-Some.rest.now h.0 h.1 c.args.text.now c.args.at c.text_from-s.ensures)
-
-pub slice_bounds-taken-end : goal.slice_bounds-taken-end
-slice_bounds-taken-end c = search (rules, feed_within c.args.key c.in-Some.rest.now c.in-Some-line_feed.n (due_found c.args.key c.in-Some.rest.now c.in-Some-line_feed.n c.longest_of.result c.longest_of.ensures c.in-Some-line_feed.ensures).1)
-
-pub taken-line-requires : goal.taken-line-requires
-taken-line-requires c =
-    let f = feed_within c.args.key c.in-Some.rest.now c.in-Some-line_feed.n (due_found c.args.key c.in-Some.rest.now c.in-Some-line_feed.n c.longest_of.result c.longest_of.ensures c.in-Some-line_feed.ensures).1 in
-    omega (arith, f, length-take (c.in-Some-line_feed.n - 0) c.in-Some.rest.now)
 
 pub returns : goal.returns
 returns c =
@@ -52,11 +31,10 @@ returns c =
     let rest = c.in-Some.rest.now in
     let h = c.in-Some.ensures in
     let n = c.in-Some-line_feed.n in
-    let l = c.taken-line.result in
-    let p = due_found k rest n c.longest_of.result c.longest_of.ensures c.in-Some-line_feed.ensures in
-    let all : n - 0 ≡ n = omega arith in
+    let l = c.taken.result in
+    let p = due_found k rest n c.longest.result c.longest.ensures c.in-Some-line_feed.ensures in
     let there : length text - length rest ≡ at + length (key_bytes k) = omega (arith, value_place k s rest h.0 h.1 text at c.text_from-s.ensures) in
-    let t = subst (λ (m : ℕ). Taken k (take m rest) (at + length (key_bytes k)) l) all (subst (λ (v : ℕ). Taken k (take (n - 0) rest) v l) there c.taken-line.ensures) in
-    let j = subst (λ (at : Spot). Judged l at c.judge.result) (c.spot_of.ensures ∙ ap (λ (v : ℕ). spot c.args.place.«record» (line_of k) v) there) c.judge.ensures in
+    let t = subst (λ (v : ℕ). Taken k (take n rest) v l) there c.taken.ensures in
+    let j = subst (λ (at : Spot). Judged l at c.judge.result) (c.spot.ensures ∙ ap (λ (v : ℕ). spot c.args.place.«record» (line_of k) v) there) c.judge.ensures in
     let p : LineRead c.args.key c.args.text.now c.args.at c.args.place.«record» c.args.place.start c.judge.result = line_read k text at n s rest c.text_from-s.ensures h.0 h.1 p.0 p.1 l t c.args.place.«record» c.args.place.start c.judge.result j in
     record { reads = p; means = line_means c.args.key c.args.text.now c.args.at c.args.place.«record» c.args.place.start c.judge.result p }

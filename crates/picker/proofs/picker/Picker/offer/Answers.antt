@@ -1,8 +1,10 @@
+use Rattle.std.proofs.Common.{Ok, rules}
+use Rattle.picker.specs.Offers.{Offered}
 use Rattle.picker.proofs.Labels.{met_offer}
 use Rattle.picker.proofs.picker.Picker.offer.Goals as goal
 
-pub returns : goal.returns
-returns g c = record {
-  step = c.settle.ensures;
-  carries = λ h k. met_offer g.W.Objective.value g.W.Objective.residual g.R.Matroid.admits g.W.Objective.laws h c.args.self.now c.args.x _ c.settle.new.self c.settle.ensures k;
-}
+pub returns-clause-carries : goal.returns-clause-carries
+returns-clause-carries g c =
+    let q = c.take_in.new.self in
+    let step : Offered g.W.Objective g.R.Matroid c.args.self.now c.args.x (Ok c.take_in.result) q = search rules in
+    λ h k. met_offer g.W.Objective g.R.Matroid h c.args.self.now c.args.x _ q step k

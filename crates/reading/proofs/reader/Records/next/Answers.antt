@@ -1,22 +1,23 @@
-use Rattle.std.proofs.Common.{◌≡◌, ◌+◌, [], drop, refl, arith}
+use Rattle.std.proofs.Common.{Ok, None, refl, arith}
 use Rattle.std.proofs.lemmas.List.{drop_all}
+use Rattle.reading.specs.Texts.{NextRead}
 use Rattle.reading.proofs.Turns.{next_by_text, next_refused}
 use Rattle.reading.proofs.reader.Records.next.Goals as goal
 
-pub returns-then-self : goal.returns-then-self
-returns-then-self c =
+pub returns-then-self-clause-exact : goal.returns-then-self-clause-exact
+returns-then-self-clause-exact c =
     let s = c.args.self.now in
-    let e : drop s.at s.text.now ≡ [] = drop_all s.at s.text.now (omega arith) in
-    record { text = refl; cases = (e, refl, refl); exact = next_by_text s.text.now s.at s.count s.at s.count _ (e, refl, refl) }
+    next_by_text s.text.now s.at s.count s.at s.count (Ok None) (drop_all s.at s.text.now (omega arith), refl, refl)
 
-pub returns-in_err-frame : goal.returns-in_err-frame
-returns-in_err-frame c =
+refused : (c : goal.After-from_residual) → NextRead c.args.self.now.text.now c.args.self.now.at c.args.self.now.count c.args.self.now.at c.args.self.now.count c.from_residual.result
+refused c =
     let s = c.args.self.now in
-    let h = next_refused s.text.now s.at s.count c.from_residual.result c.in_err-frame.field-0.0 (omega arith) c.in_err-frame.ensures.reads c.from_residual.ensures.1 in
-    record { text = refl; cases = h; exact = next_by_text s.text.now s.at s.count s.at s.count c.from_residual.result h }
+    next_refused s.text.now s.at s.count c.from_residual.result c.in_err-frame.field-0.0 (omega arith) c.in_err-frame.ensures.reads c.from_residual.ensures.1
 
-pub returns : goal.returns
-returns c =
+pub returns-in_err-frame-clause-cases : goal.returns-in_err-frame-clause-cases
+returns-in_err-frame-clause-cases c = refused c
+
+pub returns-in_err-frame-clause-exact : goal.returns-in_err-frame-clause-exact
+returns-in_err-frame-clause-exact c =
     let s = c.args.self.now in
-    let h = c.in_ok-frame.ensures.reads in
-    record { text = refl; cases = (h, refl); exact = next_by_text s.text.now s.at s.count c.in_ok-frame.behind (s.count + 1) _ (h, refl) }
+    next_by_text s.text.now s.at s.count s.at s.count c.from_residual.result (refused c)

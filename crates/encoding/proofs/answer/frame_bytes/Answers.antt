@@ -1,0 +1,6 @@
+use Rattle.encoding.specs.Answers.{placed}
+use Rattle.encoding.proofs.answer.frame_bytes.Goals as goal
+
+pub returns : goal.returns
+unfolding placed
+returns c = simp (c.put.ensures.out, c.to_le_bytes.ensures, c.to_le_bytes-2.ensures)

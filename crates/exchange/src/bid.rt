@@ -1,0 +1,97 @@
+ghost use Rattle.std.specs.Prelude.{◌≡◌, ◌<◌, ◌∷◌, length, Some as SomeOf};
+ghost use Rattle.theory.specs.Lightest.{LightestIs};
+ghost use Rattle.theory.specs.Replay.{frames, gains, may_take, has_room};
+ghost use Rattle.exchange.specs.Outcomes.{displaced};
+ghost use Rattle.exchange.specs.Search.{lighter_than};
+ghost use Rattle.kept.specs.Tables.{entries_of, held};
+
+use crate::outcome::Outcome;
+use crate::rows;
+use arrayvec::ArrayVec;
+use frames::frame::Frame;
+use kept::size::Size;
+use kept::table::KeptTable;
+use matroids::matroid::Matroid;
+
+// A frame that bids for a place, with its gain, and what it bids against.
+#[derive(Drop)]
+pub(crate) struct Bid<'a, R> {
+    pub(crate) matroid: &'a R,
+    pub(crate) table: &'a KeptTable,
+    pub(crate) frame: Frame,
+    pub(crate) gain: u32,
+    // the frame, and the kept frames behind it
+    pub(crate) row: ArrayVec<Frame, 49>,
+    ghost lined: { row.items ≡ frame ∷ frames (held table.now) },
+}
+
+impl<R: Matroid> Bid<'_, R> {
+    // Whether there is room for the frame beside the kept ones.
+    pub(crate) fn has_room(&self, size: Size) -> bool
+        ensures { result ≡ has_room (R.Matroid.admits self.now.matroid.now) size.n (held self.now.table.now) self.now.frame }
+    {
+        self.table.len() < size.get()
+            && self
+                .matroid
+                .independent(self.row.as_slice(), rows::all(self.row.len()))
+    }
+
+    // Whether the frame is independent with the kept ones but for the one at the place.
+    fn may_take(&self, place: usize) -> bool
+        requires { place < length (entries_of self.now.table.now) }
+        ensures { result ≡ may_take (R.Matroid.admits self.now.matroid.now) (held self.now.table.now) self.now.frame place }
+    {
+        self.matroid.independent(
+            self.row.as_slice(),
+            rows::all_but(self.row.len(), place + 1),
+        )
+    }
+
+    // Whether the place is lighter than the best one so far.
+    fn is_lighter(&self, place: usize, best: Option<usize>) -> bool
+        ensures { result ≡ lighter_than (gains (held self.now.table.now)) place best }
+    {
+        best.is_none_or(|q| self.table.gain_at(place) < self.table.gain_at(q))
+    }
+
+    // The lightest of the places that the frame may take. A place that is not lighter than the best so far is not asked
+    // about. The loop that yields the best place by `break` is a form that was asked for.
+    pub(crate) fn lightest(&self) -> Option<usize>
+        ensures { LightestIs (may_take (R.Matroid.admits self.now.matroid.now) (held self.now.table.now) self.now.frame) (gains (held self.now.table.now)) result }
+    {
+        let n = self.table.len();
+        let mut best = None;
+        let mut p = 0;
+        loop {
+            if p == n {
+                break best;
+            }
+            if self.is_lighter(p, best) && self.may_take(p) {
+                best = Some(p);
+            }
+            p += 1;
+        }
+    }
+
+    // What becomes of the frame, which may take the place, and no lighter one.
+    pub(crate) fn contest(&self, place: usize) -> Outcome
+        requires { place < length (entries_of self.now.table.now) }
+        ensures { result ≡ displaced (held self.now.table.now) self.now.gain (SomeOf place) }
+    {
+        let gain = self.gain;
+        let least = self.table.gain_at(place);
+        if u64::from(gain) >= 2 * u64::from(least) {
+            Outcome::Swapped {
+                place,
+                gain,
+                left: self.table.entries()[place].frame,
+            }
+        } else {
+            Outcome::Light {
+                place,
+                gain,
+                lost_to: least,
+            }
+        }
+    }
+}

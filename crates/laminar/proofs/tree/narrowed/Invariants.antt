@@ -1,5 +1,0 @@
-use Rattle.std.proofs.Common.{◌≡◌, ℕ, ◌<◌, length, get_or}
-use Rattle.laminar.proofs.tree.narrowed.Given as goal
-
-abbrev pub invariant-loop-i : goal.invariant-loop-i
-invariant-loop-i l = (length l.bytes ≡ 96) × ((k : ℕ) → k < l.i → get_or l.bytes k 0 ≡ get_or l.numbers k 0)

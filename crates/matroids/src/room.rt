@@ -1,0 +1,32 @@
+ghost use Rattle.std.specs.Prelude.{◌≡◌, Bool, true, ◌&&◌, List, [], ◌∷◌};
+ghost use Rattle.frames.specs.declared.frame.Frame.{Frame as FrameOf};
+ghost use Rattle.matroids.specs.Chosen.{chosen};
+
+use frames::frame::Frame;
+
+// The room that the frames taken so far leave: which lists of further frames it has a place for.
+pub trait Room: Drop {
+    ghost admits: { Self → List FrameOf → Bool };
+
+    // Whether x fits. A frame that fits is taken, and leaves less room.
+    fn takes(&mut self, x: &Frame) -> bool
+        ensures { (s : List FrameOf) → admits self.old (x.now ∷ s) ≡ (result && admits self.new s) };
+
+    // no frame needs no room
+    ghost nothing: { (room : Self) → admits room [] ≡ true };
+}
+
+// Whether the room takes the frames at the places of the set, one by one; bit i of the set is place i.
+pub fn takes_chosen<R: Room>(mut room: R, frames: &[Frame], places: u64) -> bool
+    ensures { result ≡ R.admits room (chosen frames.now places) }
+{
+    // a set goes by bit by bit, the lowest place first, and no index is counted
+    let mut rest = places;
+    for x in frames {
+        if rest % 2 == 1 && !room.takes(x) {
+            return false;
+        }
+        rest /= 2;
+    }
+    true
+}

@@ -1,0 +1,79 @@
+ghost use Rattle.std.specs.Prelude.{◌≡◌, ℕ, ◌-◌, ◌≤◌, List, ◌++◌, length};
+ghost use Rattle.std.specs.List.{flat_map};
+ghost use Rattle.std.specs.Option.{SomeIff};
+ghost use Rattle.records.specs.Sheets.{over, Printed};
+
+use frames::refusal::Refusal;
+
+// What is written at the front of a sheet.
+pub(crate) trait Written {
+    // Its bytes.
+    ghost text: { Self → List ℕ };
+
+    // What is left of `room` bytes behind it, if it fits.
+    fn room_after(&self, room: usize) -> Option<usize>
+        ensures { SomeIff result (length (text self.now) ≤ room) (room - length (text self.now)) };
+
+    // Writes it at the front of `out`, and answers its length.
+    fn put(&self, out: &mut [u8]) -> usize
+        requires { length (text self.now) ≤ length out.old }
+        ensures len { result ≡ length (text self.now) }
+        ensures after { out.new ≡ over (text self.now) out.old };
+}
+
+// Writes `x` at the front of `out`, if it fits, and answers its length.
+pub(crate) fn print<T: Written>(x: &T, out: &mut [u8]) -> Result<usize, Refusal>
+    ensures { Printed (T.text x.now) out.old out.new result }
+{
+    x.room_after(out.len()).ok_or(Refusal::ShortSheet)?;
+    Ok(x.put(out))
+}
+
+impl Written for &[u8] {
+    ghost text = { λ bytes. bytes.now };
+
+    fn room_after(&self, room: usize) -> Option<usize> {
+        room.checked_sub(self.len())
+    }
+
+    fn put(&self, out: &mut [u8]) -> usize {
+        let len = self.len();
+        out[..len].copy_from_slice(self);
+        len
+    }
+}
+
+// One behind the other.
+impl<A: Written, B: Written> Written for (A, B) {
+    ghost text = { λ both. A.text both.0 ++ B.text both.1 };
+
+    fn room_after(&self, room: usize) -> Option<usize> {
+        self.1.room_after(self.0.room_after(room)?)
+    }
+
+    fn put(&self, out: &mut [u8]) -> usize {
+        let at = self.0.put(out);
+        at + self.1.put(&mut out[at..])
+    }
+}
+
+// One after another.
+impl<T: Written, const N: usize> Written for [T; N] {
+    ghost text = { λ xs. flat_map T.text xs };
+
+    fn room_after(&self, room: usize) -> Option<usize> {
+        let mut left = room;
+        for x in self {
+            left = x.room_after(left)?;
+        }
+        Some(left)
+    }
+
+    fn put(&self, out: &mut [u8]) -> usize {
+        let mut at = 0;
+        for x in self {
+            at += x.put(&mut out[at..]);
+        }
+        at
+    }
+}
