@@ -12,6 +12,7 @@ struct Row {
     line: usize,
     start: usize,
     damaged: &'static [u8],
+    // as a number: the tests hold the numbers
     refusal: u8,
     byte: usize,
 }
@@ -97,7 +98,8 @@ fn stops(rt: &impl Abort, alloc: Global, rows: &[Row]) -> Result<(), Fail> {
             byte: row.byte,
         };
         assert_eq!(rt; fault.spot(), spot);
-        assert!(rt; seen_of(&picker) == seen_of(&first));
+        let (seen, due) = (seen_of(&picker)?, seen_of(&first)?);
+        assert!(rt; seen == due);
     }
     Ok(())
 }

@@ -1,16 +1,13 @@
 // What the cases share: a frame, a record, a picker as the program's, and calls with the answers that they should have.
-use exchange::outcome::Outcome;
-use faults::fault::TextFault;
-use frames::entry::Entry;
 use frames::frame::Frame;
-use frames::refusal::Refusal;
 use kept::size::Size;
 use matroids::matroid::Matroid;
 use matroids::partition::PartitionMatroid;
 use objectives::coverage::Coverage;
 use objectives::objective::Objective;
 use picker::picker::Picker;
-use report::counts::Counts;
+use runs::call::{Answer, Call};
+use runs::run::carry_out;
 use std::process::Abort;
 use std::test::*;
 
@@ -40,68 +37,37 @@ pub(crate) fn opened() -> Result<Picker<Coverage, PartitionMatroid>, Fail> {
     ))
 }
 
-// The first n bytes.
+// The first n bytes, as the program has them: no crate can depend on a program.
 pub(crate) fn front(s: &[u8], n: usize) -> &[u8] {
     &s[..n.min(s.len())]
 }
 
 // All that is seen of a picker: its counts and its kept frames with their gains, as they are printed.
-pub(crate) fn seen_of<W: Objective, R: Matroid>(picker: &Picker<W, R>) -> [u8; 512] {
+pub(crate) fn seen_of<W: Objective, R: Matroid>(picker: &Picker<W, R>) -> Result<[u8; 512], Fail> {
     let mut sheet = [0; 512];
-    let _ = picker.print(&mut sheet);
-    sheet
+    picker.print(&mut sheet)?;
+    Ok(sheet)
 }
 
-// A call, and what it should answer.
-#[derive(Clone, Copy)]
-pub(crate) enum Step {
-    Offer(Frame, Result<Outcome, Refusal>),
-    Text(&'static [u8], Result<usize, TextFault>),
-    Look(usize, Result<Entry, Refusal>),
-    Counts(Counts),
-    Clear,
+// Whether a call with that answer leaves the picker as it was: a look-up, the counts, a print-out, a declined offer.
+fn changes_nothing(answer: &Answer) -> bool {
+    matches!(
+        answer,
+        Answer::Offered(Err(_)) | Answer::Looked(_) | Answer::Counted(_) | Answer::Printed(_)
+    )
 }
 
-// Makes one call, and answers whether it should leave the picker as it was.
-fn call<W: Objective, R: Matroid>(
-    rt: &impl Abort,
-    picker: &mut Picker<W, R>,
-    step: &Step,
-) -> Result<bool, Fail> {
-    match step {
-        Step::Offer(x, due) => {
-            assert_eq!(rt; picker.offer(*x), *due);
-            Ok(due.is_err())
-        }
-        Step::Text(text, due) => {
-            assert_eq!(rt; picker.offer_text(text), *due);
-            Ok(false)
-        }
-        Step::Look(place, due) => {
-            assert_eq!(rt; picker.look(*place), *due);
-            Ok(true)
-        }
-        Step::Counts(due) => {
-            assert_eq!(rt; picker.counts(), *due);
-            Ok(true)
-        }
-        Step::Clear => {
-            picker.clear();
-            Ok(false)
-        }
-    }
-}
-
-// Makes the calls in turn. A look-up or a declined call leaves all that is seen of the picker as it was.
+// Makes the calls in turn, each with the answer that it should have.
 pub(crate) fn play<W: Objective, R: Matroid>(
     rt: &impl Abort,
     picker: &mut Picker<W, R>,
-    steps: &[Step],
+    steps: &[(Call<'_>, Answer)],
 ) -> Result<(), Fail> {
-    for step in steps {
-        let before = seen_of(picker);
-        let same = call(rt, picker, step)?;
-        assert!(rt; !same || seen_of(picker) == before);
+    for (call, due) in steps {
+        let before = seen_of(picker)?;
+        assert_eq!(rt; carry_out(picker, call, &mut []), *due);
+        let after = seen_of(picker)?;
+        assert!(rt; !changes_nothing(due) || after == before);
     }
     Ok(())
 }

@@ -21,7 +21,6 @@ fn holds(sheet: &[u8], text: &[u8]) -> bool {
         .is_some_and(|behind| behind.iter().all(|b| *b == b'.'))
 }
 
-// The room, the answer, and how many bytes are written.
 fn prints<F: Fn(&mut [u8]) -> Result<usize, Refusal> + Drop>(
     rt: &impl Abort,
     print: F,
@@ -31,6 +30,7 @@ fn prints<F: Fn(&mut [u8]) -> Result<usize, Refusal> + Drop>(
 {
     let n = text.len();
     assert!(rt; n > 0);
+    // the room, the answer, and how many bytes are written
     let cases = [
         (n - 1, Err(Refusal::ShortSheet), 0),
         (n, Ok(n), n),

@@ -1,10 +1,11 @@
 // Why sizes, offers, look-ups and texts are declined.
-use crate::play::{RECORD, Step, opened, play, seen_of, shot};
+use crate::play::{RECORD, opened, play, seen_of, shot};
 use exchange::outcome::Outcome;
 use faults::fault::{RecordFault, TextFault};
 use frames::frame::Frame;
 use frames::refusal::Refusal;
 use kept::size::Size;
+use runs::call::{Answer, Call};
 use spots::fault::{LineFault, Spot};
 use std::test::*;
 
@@ -29,20 +30,30 @@ fn declined_calls(rt: HostRuntime) -> Result<(), Fail> {
     let x = shot(3, 0);
     let side_2 = Frame { side: 2, ..x };
     let steps = [
-        Step::Look(0, Err(Refusal::NoPlace)),
-        Step::Offer(x, Ok(Outcome::Kept { place: 0, gain: 3 })),
-        Step::Look(1, Err(Refusal::NoPlace)),
-        Step::Look(usize::MAX, Err(Refusal::NoPlace)),
-        Step::Offer(shot(4, 64), Err(Refusal::Over)),
-        Step::Offer(side_2, Err(Refusal::Over)),
-        Step::Text(&[], Ok(0)),
-        Step::Text(RECORD, Ok(1)),
+        (Call::Look(0), Answer::Looked(Err(Refusal::NoPlace))),
+        (
+            Call::Offer(x),
+            Answer::Offered(Ok(Outcome::Kept { place: 0, gain: 3 })),
+        ),
+        (Call::Look(1), Answer::Looked(Err(Refusal::NoPlace))),
+        (
+            Call::Look(usize::MAX),
+            Answer::Looked(Err(Refusal::NoPlace)),
+        ),
+        (
+            Call::Offer(shot(4, 64)),
+            Answer::Offered(Err(Refusal::Over)),
+        ),
+        (Call::Offer(side_2), Answer::Offered(Err(Refusal::Over))),
+        (Call::Text(&[]), Answer::Texted(Ok(0))),
+        (Call::Text(RECORD), Answer::Texted(Ok(1))),
     ];
     play(&rt, &mut picker, &steps)?;
     let long = [b'f'; 65_537];
-    let before = seen_of(&picker);
+    let before = seen_of(&picker)?;
     assert_eq!(rt; picker.offer_text(&long), Err(TextFault::LongText));
-    assert!(rt; seen_of(&picker) == before);
+    let after = seen_of(&picker)?;
+    assert!(rt; after == before);
     // a text of 65,536 bytes is looked into
     let spot = Spot {
         record: 1,

@@ -1,5 +1,5 @@
 // A shift of a million frames.
-use crate::play::{RECORD, Step, opened, play, shot};
+use crate::play::{RECORD, opened, play, shot};
 use exchange::outcome::Outcome;
 use faults::fault::{RecordFault, TextFault};
 use frames::refusal::Refusal;
@@ -7,6 +7,7 @@ use matroids::partition::PartitionMatroid;
 use objectives::coverage::Coverage;
 use picker::picker::Picker;
 use report::counts::Counts;
+use runs::call::{Answer, Call};
 use std::process::Abort;
 use std::test::*;
 
@@ -32,16 +33,25 @@ fn full(record: usize, byte: usize) -> Result<usize, TextFault> {
 #[test]
 fn millionth_frame_is_the_last(rt: HostRuntime) -> Result<(), Fail> {
     let mut picker = opened()?;
-    let kept = Step::Offer(shot(3, 0), Ok(Outcome::Kept { place: 0, gain: 3 }));
+    let kept = (
+        Call::Offer(shot(3, 0)),
+        Answer::Offered(Ok(Outcome::Kept { place: 0, gain: 3 })),
+    );
     play(&rt, &mut picker, &[kept])?;
     blanks(&rt, &mut picker, 999_998)?;
     let by_frames = [
-        Step::Offer(shot(0, 0), Ok(Outcome::Empty)),
-        Step::Offer(shot(4, 1), Err(Refusal::ShiftFull)),
+        (Call::Offer(shot(0, 0)), Answer::Offered(Ok(Outcome::Empty))),
+        (
+            Call::Offer(shot(4, 1)),
+            Answer::Offered(Err(Refusal::ShiftFull)),
+        ),
         // the lane and the side are looked at first
-        Step::Offer(shot(4, 64), Err(Refusal::Over)),
-        Step::Text(RECORD, full(1, 0)),
-        Step::Clear,
+        (
+            Call::Offer(shot(4, 64)),
+            Answer::Offered(Err(Refusal::Over)),
+        ),
+        (Call::Text(RECORD), Answer::Texted(full(1, 0))),
+        (Call::Clear, Answer::Cleared),
         kept,
     ];
     play(&rt, &mut picker, &by_frames)?;
@@ -56,10 +66,10 @@ fn millionth_frame_is_the_last(rt: HostRuntime) -> Result<(), Fail> {
         told: 6,
     };
     let by_records = [
-        Step::Text(TWO_RECORDS, full(2, 66)),
-        Step::Counts(counts),
-        Step::Clear,
-        Step::Text(RECORD, Ok(1)),
+        (Call::Text(TWO_RECORDS), Answer::Texted(full(2, 66))),
+        (Call::Counts, Answer::Counted(counts)),
+        (Call::Clear, Answer::Cleared),
+        (Call::Text(RECORD), Answer::Texted(Ok(1))),
     ];
     play(&rt, &mut picker, &by_records)
 }

@@ -1,11 +1,12 @@
 // The same frame offered again.
-use crate::play::{Step, opened, play, shot};
+use crate::play::{opened, play, shot};
 use concave::counts::ConcaveCounts;
 use exchange::outcome::Outcome;
 use frames::entry::Entry;
 use kept::size::Size;
 use matroids::partition::PartitionMatroid;
 use picker::picker::Picker;
+use runs::call::{Answer, Call};
 use std::test::*;
 
 #[test]
@@ -14,8 +15,11 @@ fn offered_twice(rt: HostRuntime) -> Result<(), Fail> {
     let mut covered = opened()?;
     let x = shot(3, 0);
     let under_coverage = [
-        Step::Offer(x, Ok(Outcome::Kept { place: 0, gain: 3 })),
-        Step::Offer(x, Ok(Outcome::Empty)),
+        (
+            Call::Offer(x),
+            Answer::Offered(Ok(Outcome::Kept { place: 0, gain: 3 })),
+        ),
+        (Call::Offer(x), Answer::Offered(Ok(Outcome::Empty))),
     ];
     play(&rt, &mut covered, &under_coverage)?;
     // it is one frame more on its lane, and gains the next step
@@ -30,11 +34,23 @@ fn offered_twice(rt: HostRuntime) -> Result<(), Fail> {
         lost_to: 3,
     };
     let under_steps = [
-        Step::Offer(x, Ok(Outcome::Kept { place: 0, gain: 5 })),
-        Step::Offer(x, Ok(Outcome::Kept { place: 1, gain: 3 })),
-        Step::Offer(x, Ok(light)),
-        Step::Look(0, Ok(Entry { frame: x, gain: 5 })),
-        Step::Look(1, Ok(Entry { frame: x, gain: 3 })),
+        (
+            Call::Offer(x),
+            Answer::Offered(Ok(Outcome::Kept { place: 0, gain: 5 })),
+        ),
+        (
+            Call::Offer(x),
+            Answer::Offered(Ok(Outcome::Kept { place: 1, gain: 3 })),
+        ),
+        (Call::Offer(x), Answer::Offered(Ok(light))),
+        (
+            Call::Look(0),
+            Answer::Looked(Ok(Entry { frame: x, gain: 5 })),
+        ),
+        (
+            Call::Look(1),
+            Answer::Looked(Ok(Entry { frame: x, gain: 3 })),
+        ),
     ];
     play(&rt, &mut counted, &under_steps)
 }

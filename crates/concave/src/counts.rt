@@ -13,7 +13,7 @@ use objectives::objective::Objective;
 // where c is how many frames of the list are on that lane, 8 at most. A lane above 63 adds nothing.
 #[derive(Drop)]
 pub struct ConcaveCounts {
-    // as in the settings: step n of lane l stands at 8 · l + n
+    // step n of lane l stands at 8 · l + n, as in the settings: rows of eight would be flattened again in each clause
     steps: [u32; 512],
     // how many frames of each lane were added since the last reset, 8 at most
     counts: [u8; 64],
@@ -31,10 +31,8 @@ impl ConcaveCounts {
         ensures accepted { IfOk result (λ c. (c.steps ≡ steps.now) × (c.counts ≡ replicate 64 0)) }
     {
         check_steps(steps)?;
-        let mut own = [0; 512];
-        own.copy_from_slice(steps);
         Ok(ConcaveCounts {
-            steps: own,
+            steps: steps.try_into().unwrap(),
             counts: [0; 64],
         })
     }

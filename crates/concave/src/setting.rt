@@ -5,6 +5,9 @@ ghost use Rattle.concave.specs.Steps.{steps_fault};
 use frames::refusal::Refusal;
 use frames::setting::{SettingFault, check_count};
 
+// eight for each of 64 lanes
+const STEPS: usize = 512;
+
 const HIGHEST_STEP: u32 = 8_388_607;
 
 const STEPS_OF_LANE: usize = 8;
@@ -14,7 +17,7 @@ pub(crate) fn check_steps(steps: &[u32]) -> Result<(), SettingFault>
     ensures fault { result_err result ≡ steps_fault 512 8388607 steps.now }
     ensures accepted { OnOk result ((length steps.now ≡ 512) × ((i : ℕ) → slice_index steps.now i ≤ 8388607) × ((l j : ℕ) → j < 7 → slice_index steps.now (8 * l + j + 1) ≤ slice_index steps.now (8 * l + j))) }
 {
-    check_count(steps, 512)?;
+    check_count(steps, STEPS)?;
     let mut before = 0;
     for (i, step) in steps.iter().enumerate() {
         if *step > HIGHEST_STEP {

@@ -21,7 +21,7 @@ use runs::ran::Ran;
 use runs::run::run;
 use std::io::{Read, Write};
 
-// Class i has the weight i + 1. A constant is written out, since no function computes one.
+// Class i has the weight i + 1: written out, so that the proof computes that these are the settings of the worked case.
 const WEIGHTS: [u32; 64] = [
     1, 2, 3, 4, 5, 6, 7, 8, 9, 10, 11, 12, 13, 14, 15, 16, 17, 18, 19, 20, 21, 22, 23, 24, 25, 26,
     27, 28, 29, 30, 31, 32, 33, 34, 35, 36, 37, 38, 39, 40, 41, 42, 43, 44, 45, 46, 47, 48, 49, 50,

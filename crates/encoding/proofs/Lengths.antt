@@ -1,5 +1,5 @@
 -- How many bytes an answer has. Assumes nothing.
-use Rattle.std.proofs.Common.{◌≡◌, ℕ, Bool, List, length, Ok, Err, Result, refl}
+use Rattle.std.proofs.Common.{◌≡◌, ℕ, ◌≤◌, Bool, List, length, Ok, Err, Result, refl, arith}
 use Rattle.exchange.specs.declared.outcome.Outcome.{Outcome}
 use Rattle.exchange.specs.declared.outcome.Outcome.TheVariants.{Empty, Kept, Swapped, Light, Barred}
 use Rattle.faults.specs.declared.fault.TextFault.{TextFault}
@@ -60,3 +60,11 @@ fixed_long f adm n h s (looking i) = answer_long (answer_after f adm n h s (look
 fixed_long f adm n h s counting = answer_long (answer_after f adm n h s counting)
 fixed_long f adm n h s printing = answer_long (answer_after f adm n h s printing)
 fixed_long f adm n h s clearing = answer_long (answer_after f adm n h s clearing)
+
+pub few_fixed : (c : Called) → fixed_of c ≤ 32
+few_fixed (offering x) = omega arith
+few_fixed (reading t) = omega arith
+few_fixed (looking i) = omega arith
+few_fixed counting = omega arith
+few_fixed printing = omega arith
+few_fixed clearing = omega arith

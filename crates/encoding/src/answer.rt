@@ -30,7 +30,8 @@ fn frame_bytes(x: &Frame) -> [u8; 17]
     bytes
 }
 
-// No refusal, the outcome's number, the place, the gain, the gain it lost to, and the frame that left.
+// No refusal, the outcome's number, the place, the gain, the gain it lost to, and the frame that left. The outcomes are
+// numbered 0 to 4 by the byte format.
 fn put_outcome(outcome: &Outcome, out: &mut [u8])
     ensures { out.new ≡ placed (outcome_bytes outcome.now) out.old }
 {
@@ -58,7 +59,7 @@ fn put_outcome(outcome: &Outcome, out: &mut [u8])
             put(&[&[0, 3, low_byte(place)], &gain, &lost_to, &[0; 17]], out)
         }
         Outcome::Barred { gain } => put(&[&[0, 4, 0], &gain.to_le_bytes(), &[0; 21]], out),
-    };
+    }
 }
 
 fn put_offered(answer: &Result<Outcome, Refusal>, out: &mut [u8])
@@ -66,9 +67,7 @@ fn put_offered(answer: &Result<Outcome, Refusal>, out: &mut [u8])
 {
     match answer {
         Ok(outcome) => put_outcome(outcome, out),
-        Err(refusal) => {
-            put(&[&[refusal.number()], &[0; 27]], out);
-        }
+        Err(refusal) => put(&[&[refusal.number()], &[0; 27]], out),
     }
 }
 
@@ -91,7 +90,7 @@ fn put_texted(answer: &Result<usize, TextFault>, out: &mut [u8])
                 out,
             )
         }
-    };
+    }
 }
 
 // The refusal, the gain and the frame.
@@ -104,7 +103,7 @@ fn put_looked(answer: &Result<Entry, Refusal>, out: &mut [u8])
             out,
         ),
         Err(refusal) => put(&[&[refusal.number()], &[0; 21]], out),
-    };
+    }
 }
 
 fn put_counted(counts: &Counts, out: &mut [u8])
@@ -130,7 +129,7 @@ fn put_printed(answer: &Result<usize, Refusal>, out: &mut [u8])
     match answer {
         Ok(n) => put(&[&[0], &n.to_le_bytes()[..4]], out),
         Err(refusal) => put(&[&[refusal.number()], &[0; 4]], out),
-    };
+    }
 }
 
 // Writes an answer at the front of `out`, if it has room for it.

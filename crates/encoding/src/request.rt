@@ -1,4 +1,4 @@
-ghost use Rattle.std.specs.Prelude.{◌≡◌};
+ghost use Rattle.std.specs.Prelude.{◌≡◌, ◌+◌};
 ghost use Rattle.runs.specs.Runs.{called};
 ghost use Rattle.encoding.specs.Answers.{fixed_of};
 
@@ -38,5 +38,12 @@ impl<'a> Request<'a> {
             Call::Print => 5,
             Call::Clear => 0,
         }
+    }
+
+    // How many bytes its answer takes with the print-out.
+    pub fn due(&self) -> u128
+        ensures { result ≡ fixed_of (called self.now.call) + self.now.room }
+    {
+        self.fixed() as u128 + self.room as u128
     }
 }

@@ -11,6 +11,7 @@ use arrayvec::ArrayVec;
 use frames::frame::Frame;
 use kept::size::Size;
 use kept::table::KeptTable;
+use matroids::count::places_below;
 use matroids::matroid::Matroid;
 
 // A frame that bids for a place, with its gain, and what it bids against.
@@ -18,6 +19,7 @@ use matroids::matroid::Matroid;
 pub(crate) struct Bid<'a, R> {
     pub(crate) matroid: &'a R,
     pub(crate) table: &'a KeptTable,
+    // read by the clauses alone: the code reads it at the head of the row
     pub(crate) frame: Frame,
     pub(crate) gain: u32,
     // the frame, and the kept frames behind it
@@ -33,7 +35,7 @@ impl<R: Matroid> Bid<'_, R> {
         self.table.len() < size.get()
             && self
                 .matroid
-                .independent(self.row.as_slice(), rows::all(self.row.len()))
+                .independent(self.row.as_slice(), places_below(self.row.len()))
     }
 
     // Whether the frame is independent with the kept ones but for the one at the place.
@@ -55,21 +57,19 @@ impl<R: Matroid> Bid<'_, R> {
     }
 
     // The lightest of the places that the frame may take. A place that is not lighter than the best so far is not asked
-    // about. The loop that yields the best place by `break` is a form that was asked for.
+    // about. Once none is left, the best so far is the lightest.
     pub(crate) fn lightest(&self) -> Option<usize>
         ensures { LightestIs (may_take (R.Matroid.admits self.now.matroid.now) (held self.now.table.now) self.now.frame) (gains (held self.now.table.now)) result }
     {
-        let n = self.table.len();
+        let mut places = 0..self.table.len();
         let mut best = None;
-        let mut p = 0;
         loop {
-            if p == n {
+            let Some(p) = places.next() else {
                 break best;
-            }
+            };
             if self.is_lighter(p, best) && self.may_take(p) {
                 best = Some(p);
             }
-            p += 1;
         }
     }
 

@@ -5,14 +5,7 @@ ghost use Rattle.kept.specs.Tables.{held};
 use arrayvec::ArrayVec;
 use frames::frame::Frame;
 use kept::table::KeptTable;
-
-// The set of the first `n` places.
-pub(crate) fn all(n: usize) -> u64
-    requires { n ≤ 49 }
-    ensures { result ≡ 2 ^ n - 1 }
-{
-    (1u64 << n) - 1
-}
+use matroids::count::places_below;
 
 // The set of the first `n` places but for `p`.
 pub(crate) fn all_but(n: usize, p: usize) -> u64
@@ -20,7 +13,7 @@ pub(crate) fn all_but(n: usize, p: usize) -> u64
     requires p { p < n }
     ensures { result ≡ 2 ^ n - 1 - 2 ^ p }
 {
-    all(n) - (1u64 << p)
+    places_below(n) - (1 << p)
 }
 
 // `x`, and the kept frames behind it.

@@ -6,7 +6,7 @@ use crate::fault::ArgumentFault;
 use serving::refusal::RunRefusal;
 
 impl ArgumentFault {
-    // As a number: the refusal, the argument's place, and the index in it.
+    // As a number, since C is told one: the refusal, the argument's place, and the index in it.
     pub(crate) fn number(self) -> u64
         ensures { result ≡ refused_as self }
     {

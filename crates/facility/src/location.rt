@@ -37,7 +37,7 @@ impl<'a> FacilityLocation<'a> {
     }
 }
 
-impl<'a> Objective for FacilityLocation<'a> {
+impl Objective for FacilityLocation<'_> {
     ghost value = { λ w. facility (λ x. x.look) w.table.now };
 
     ghost residual = { λ w. facility_above (λ x. x.look) w.table.now w.best };

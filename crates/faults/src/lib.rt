@@ -1,4 +1,4 @@
 #![tactic(auto)]
 
 pub mod fault;
-pub mod tells;
+mod tells;

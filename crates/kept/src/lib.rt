@@ -1,6 +1,6 @@
 #![tactic(auto)]
 
 pub mod size;
-pub mod sizing;
-pub mod slots;
+mod sizing;
+mod slots;
 pub mod table;

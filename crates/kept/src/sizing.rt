@@ -1,14 +1,14 @@
 ghost use Rattle.std.specs.Prelude.{◌≡◌, ◌≤◌};
 ghost use Rattle.kept.specs.Sizes.{size_answer, number_in};
 
-use crate::size::Size;
+use crate::size::{MOST_KEPT, Size};
 use frames::refusal::Refusal;
 
 impl Size {
     pub fn new(n: usize) -> Result<Size, Refusal>
         ensures { number_in result ≡ size_answer n }
     {
-        if n >= 1 && n <= 48 {
+        if (1..=MOST_KEPT).contains(&n) {
             Ok(Size { n })
         } else {
             Err(Refusal::BadSize)

@@ -59,7 +59,8 @@ impl KeptTable {
         self.entries.clear();
     }
 
-    // The gain at a place, 0 where none is kept there, as the replay of the definitions counts it.
+    // The gain at a place, 0 where none is kept there. Its promise is over the definitions' number, which is 0 there too;
+    // an `Option` would be another function, and `get` is that one.
     pub fn gain_at(&self, place: usize) -> u32
         ensures { result ≡ gain_at (held self.now) place }
     {

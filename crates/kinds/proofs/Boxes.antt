@@ -6,7 +6,7 @@ use Rattle.std.proofs.lemmas.List.Sums.{length-filter}
 use Rattle.std.proofs.lemmas.Bool.{cases_lt, and_parts, and_from, not-true, leb-true, le-leb}
 use Rattle.theory.specs.Bag.{Same, count}
 use Rattle.theory.specs.Laws.{MatroidLaws}
-use Rattle.theory.proofs.Orders.{orderless_sum_by, occurs_more, count_by_all}
+use Rattle.theory.proofs.Orders.{orderless_sum_by, count_by_all, longer_has_more}
 use Rattle.kinds.specs.Matroids.{few, Splits, truncated}
 use Rattle.kinds.proofs.Counts.{count_steps}
 use Rattle.kinds.proofs.Parts.{matroid_same, part_exchange}
@@ -60,5 +60,5 @@ module _ {A : Type 0} {same : A → A → Bool} (eq : Same same) where
     nothing = refl;
     order = λ r x y s. refl;
     fewer = λ x s h. refl;
-    exchange = λ s t hs ht l. let got = occurs_more eq (λ x. true) t s (omega (arith, count_by_all s, count_by_all t)) in (got.0, got.2, refl);
+    exchange = λ s t hs ht l. let got = longer_has_more eq s t l in (got.0, got.1, refl);
   }

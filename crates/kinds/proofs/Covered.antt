@@ -26,23 +26,23 @@ unfolding uncovered
 length-uncovered covered weights = length-map-range_with_len (λ i. cond (shows covered i) 0 (get_or weights i 0)) 0 (length weights)
 
 module _ (covered : ℕ) (weights : List ℕ) (i : ℕ) where
-  slice_index_near : i < length weights → get_or (uncovered covered weights) i 0 ≡ cond (shows covered i) 0 (get_or weights i 0)
+  get_or_near : i < length weights → get_or (uncovered covered weights) i 0 ≡ cond (shows covered i) 0 (get_or weights i 0)
   unfolding uncovered
-  slice_index_near l = get_or-map-range_with_len (λ k. cond (shows covered k) 0 (get_or weights k 0)) 0 (length weights) i i 0 l (omega arith)
+  get_or_near l = get_or-map-range_with_len (λ k. cond (shows covered k) 0 (get_or weights k 0)) 0 (length weights) i i 0 l (omega arith)
 
-  get_d_beyond : length weights ≤ i → get_or (uncovered covered weights) i 0 ≡ cond (shows covered i) 0 (get_or weights i 0)
-  get_d_beyond l = get_or_past (uncovered covered weights) i 0 (omega (arith, length-uncovered covered weights)) ∙ sym (ap (cond (shows covered i) 0) (get_or_past weights i 0 l) ∙ cond_same (shows covered i) 0)
+  get_or_beyond : length weights ≤ i → get_or (uncovered covered weights) i 0 ≡ cond (shows covered i) 0 (get_or weights i 0)
+  get_or_beyond l = get_or_past (uncovered covered weights) i 0 (omega (arith, length-uncovered covered weights)) ∙ sym (ap (cond (shows covered i) 0) (get_or_past weights i 0 l) ∙ cond_same (shows covered i) 0)
 
   -- a covered class has the weight 0
-  pub slice_index_uncovered : get_or (uncovered covered weights) i 0 ≡ cond (shows covered i) 0 (get_or weights i 0)
-  slice_index_uncovered = ⊎_elim slice_index_near get_d_beyond (cases_lt i (length weights))
+  pub get_or_uncovered : get_or (uncovered covered weights) i 0 ≡ cond (shows covered i) 0 (get_or weights i 0)
+  get_or_uncovered = ⊎_elim get_or_near get_or_beyond (cases_lt i (length weights))
 
 shows_none : (i : ℕ) → shows 0 i ≡ false
 shows_none i = ap (λ n. eqb (n % 2) 1) (zero-div (2 ^ i))
 
 -- where no class is covered, all weights are left
 pub uncovered_none : (weights : List ℕ) → uncovered 0 weights ≡ weights
-uncovered_none weights = ext_get_or 0 (uncovered 0 weights) weights (length-uncovered 0 weights) (λ i l. slice_index_uncovered 0 weights i ∙ ap (λ b. cond b 0 (get_or weights i 0)) (shows_none i))
+uncovered_none weights = ext_get_or 0 (uncovered 0 weights) weights (length-uncovered 0 weights) (λ i l. get_or_uncovered 0 weights i ∙ ap (λ b. cond b 0 (get_or weights i 0)) (shows_none i))
 
 module _ {A : Type 0} (marks : A → ℕ) (weights : List ℕ) (limit : (i : ℕ) → get_or weights i 0 ≤ 67108863) where
   pub coverage_keeps : Lawful (coverage marks weights)
@@ -50,7 +50,7 @@ module _ {A : Type 0} (marks : A → ℕ) (weights : List ℕ) (limit : (i : ℕ
 
 module _ {A : Type 0} (marks : A → ℕ) (covered : ℕ) (weights : List ℕ) where
   pub uncovered_keeps : ((i : ℕ) → get_or weights i 0 ≤ 67108863) → Lawful (coverage marks (uncovered covered weights))
-  uncovered_keeps limit = coverage_keeps marks (uncovered covered weights) (λ i. let low = cond_le_else (shows covered i) (get_or weights i 0) 67108863 (limit i) in omega (arith, low, slice_index_uncovered covered weights i))
+  uncovered_keeps limit = coverage_keeps marks (uncovered covered weights) (λ i. let low = cond_le_else (shows covered i) (get_or weights i 0) 67108863 (limit i) in omega (arith, low, get_or_uncovered covered weights i))
 
   -- once x is added its classes are covered too
   pub coverage_added : (x : A) (s : List A) → coverage marks (uncovered covered weights) (x ∷ s) ≡ coverage marks (uncovered (bit_or covered (marks x)) weights) s + coverage marks (uncovered covered weights) (x ∷ [])
@@ -68,7 +68,7 @@ module _ {A : Type 0} (marks : A → ℕ) (covered : ℕ) (weights : List ℕ) w
       go false false false w = refl
 
       each : (i : ℕ) → of_class marks (uncovered covered weights) i (x ∷ s) ≡ of_class marks (uncovered (bit_or covered (marks x)) weights) i s + of_class marks (uncovered covered weights) i (x ∷ [])
-      each i = simp (slice_index_uncovered, shows_or) (go (shows covered i) (shows (marks x) i) (some (λ y. shows (marks y) i) s) (get_or weights i 0))
+      each i = simp (get_or_uncovered, shows_or) (go (shows covered i) (shows (marks x) i) (some (λ y. shows (marks y) i) s) (get_or weights i 0))
 
 -- classes in both sets
 pub shows_and : (m n i : ℕ) → shows (bit_and m n) i ≡ (shows m i && shows n i)
@@ -112,7 +112,7 @@ module _ {A : Type 0} (marks : A → ℕ) (weights : List ℕ) (s : List A) wher
 
 -- class i counts for x if x shows it and it is not covered yet
 pub class_new : {A : Type 0} (marks : A → ℕ) (covered : ℕ) (weights : List ℕ) (x : A) (n i : ℕ) → i < n → covered < 2 ^ n → cond (shows (bit_and (marks x) (2 ^ n - 1 - covered)) i) (get_or weights i 0) 0 ≡ of_class marks (uncovered covered weights) i (x ∷ [])
-class_new marks covered weights x n i l h = ap (λ b. cond b (get_or weights i 0) 0) (shows_and (marks x) (2 ^ n - 1 - covered) i ∙ ap (λ b. shows (marks x) i && b) (shows-not n covered i l h)) ∙ go (shows (marks x) i) (shows covered i) (get_or weights i 0) ∙ ap (λ w. cond (shows (marks x) i || false) w 0) (sym (slice_index_uncovered covered weights i))
+class_new marks covered weights x n i l h = ap (λ b. cond b (get_or weights i 0) 0) (shows_and (marks x) (2 ^ n - 1 - covered) i ∙ ap (λ b. shows (marks x) i && b) (shows-not n covered i l h)) ∙ go (shows (marks x) i) (shows covered i) (get_or weights i 0) ∙ ap (λ w. cond (shows (marks x) i || false) w 0) (sym (get_or_uncovered covered weights i))
   where
     go : (m c : Bool) (w : ℕ) → cond (m && not c) w 0 ≡ cond (m || false) (cond c 0 w) 0
     go true true w = refl

@@ -12,8 +12,8 @@ use Rattle.kinds.proofs.Lawful.{lawful_same, greatest_lawful}
 use Rattle.kinds.proofs.Objectives.{below_lawful, below_small, below_more, greatest_le}
 
 -- nothing but zeros
-pub slice_index_zeros : (n i : ℕ) → get_or {A = ℕ} (replicate n 0) i 0 ≡ 0
-slice_index_zeros n i = ⊎_elim (λ l. get_or-replicate {A = ℕ} n i 0 0 l) (λ l. get_or_past {X = ℕ} (replicate n 0) i 0 (omega (arith, length-replicate {A = ℕ} n 0))) (cases_lt i n)
+pub get_or_zeros : (n i : ℕ) → get_or {A = ℕ} (replicate n 0) i 0 ≡ 0
+get_or_zeros n i = ⊎_elim (λ l. get_or-replicate {A = ℕ} n i 0 0 l) (λ l. get_or_past {X = ℕ} (replicate n 0) i 0 (omega (arith, length-replicate {A = ℕ} n 0))) (cases_lt i n)
 
 -- what the greatest is above b
 greatest_above : {A : Type 0} (v : A → ℕ) (b : ℕ) (s : List A) → greatest (λ x. v x - b) s ≡ greatest v s - b
@@ -31,7 +31,7 @@ module _ {A : Type 0} (look : A → ℕ) (table : List ℕ) where
   -- where no view has any likeness yet, all of it is left
   pub above_none : (n : ℕ) (s : List A) → facility_above look table (replicate n 0) s ≡ facility look table s
   unfolding facility facility_above
-  above_none n s = ap (λ f. sum_by f (range_with_len 0 64)) (fun_ext (λ v. ap (λ b. of_view look table v s - b) (slice_index_zeros n v) ∙ sub-zero (of_view look table v s)))
+  above_none n s = ap (λ f. sum_by f (range_with_len 0 64)) (fun_ext (λ v. ap (λ b. of_view look table v s - b) (get_or_zeros n v) ∙ sub-zero (of_view look table v s)))
 
   -- once x is added each view has the likeness of x, if that is more
   pub facility_added : (best raised : List ℕ) (x : A) (s : List A) → ((v : ℕ) → v < 64 → get_or raised v 0 ≡ max (get_or best v 0) (likeness table (look x) v)) → facility_above look table best (x ∷ s) ≡ facility_above look table raised s + facility_above look table best (x ∷ [])

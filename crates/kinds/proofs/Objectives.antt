@@ -24,10 +24,10 @@ module _ {A : Type 0} (f : ℕ → List A → ℕ) (n : ℕ) where
 pub below_more : (f : ℕ → ℕ) (n : ℕ) → sum_by f (range_with_len 0 (n + 1)) ≡ sum_by f (range_with_len 0 n) + f n
 below_more f n = ap (sum_by f) (sym (map-id (range_with_len 0 (n + 1)))) ∙ sum_by-map-range_with_len_more f (λ i. i) 0 n n (omega arith) ∙ ap (λ is. sum_by f is + f n) (map-id (range_with_len 0 n))
 
-pub get_d_le : (m : ℕ) (xs : List ℕ) (i : ℕ) → AllByRecursion (λ x. x ≤ m) xs → get_or xs i 0 ≤ m
-get_d_le m [] i h = omega arith
-get_d_le m (x ∷ xs) zero h = h.0
-get_d_le m (x ∷ xs) (suc i) h = get_d_le m xs i h.1
+pub get_or_le : (m : ℕ) (xs : List ℕ) (i : ℕ) → AllByRecursion (λ x. x ≤ m) xs → get_or xs i 0 ≤ m
+get_or_le m [] i h = omega arith
+get_or_le m (x ∷ xs) zero h = h.0
+get_or_le m (x ∷ xs) (suc i) h = get_or_le m xs i h.1
 
 pub cond_le : (b : Bool) (n m : ℕ) → n ≤ m → cond b n 0 ≤ m
 cond_le true n m h = h
@@ -44,7 +44,7 @@ module _ {A : Type 0} (marks : A → ℕ) (weights : List ℕ) where
 
   pub coverage_small : AllByRecursion (λ w. w ≤ 67108863) weights → Bounded (coverage marks weights)
   unfolding coverage
-  coverage_small h = below_small (of_class marks weights) 64 67108863 (omega arith) (λ i l s. cond_le (some (λ x. shows (marks x) i) s) (get_or weights i 0) 67108863 (get_d_le 67108863 weights i h))
+  coverage_small h = below_small (of_class marks weights) 64 67108863 (omega arith) (λ i l s. cond_le (some (λ x. shows (marks x) i) s) (get_or weights i 0) 67108863 (get_or_le 67108863 weights i h))
 
 pub facility_keeps : {A : Type 0} (look : A → ℕ) (table : List ℕ) → Lawful (facility look table)
 unfolding facility

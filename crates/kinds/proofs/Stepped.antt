@@ -11,7 +11,7 @@ use Rattle.kinds.specs.Objectives.{steps_of, steps_left, of_lane, concave, Falli
 use Rattle.kinds.proofs.Counts.{count_at}
 use Rattle.kinds.proofs.Gains.{adds_below, only, only_here, only_not, sum_one, sum_out}
 use Rattle.kinds.proofs.Lawful.{Concave, count_lawful}
-use Rattle.kinds.proofs.Located.{slice_index_zeros}
+use Rattle.kinds.proofs.Located.{get_or_zeros}
 use Rattle.kinds.proofs.Objectives.{below_lawful, below_small}
 
 -- one step more
@@ -96,7 +96,7 @@ module _ {A : Type 0} (lane : A → ℕ) where
 
   -- where no frame is added all steps are left
   pub left_none : (n : ℕ) (steps : List ℕ) (s : List A) → concave lane (steps_left (replicate n 0) steps) s ≡ concave lane (steps_of steps) s
-  left_none n steps s = ap (λ f. concave lane f s) (fun_ext (λ l. ap (λ c. drop c (steps_of steps l)) (slice_index_zeros n l)))
+  left_none n steps s = ap (λ f. concave lane f s) (fun_ext (λ l. ap (λ c. drop c (steps_of steps l)) (get_or_zeros n l)))
 
 module _ {A : Type 0} (lane : A → ℕ) (steps_at : ℕ → List ℕ) (x : A) where
   first : ℕ → ℕ

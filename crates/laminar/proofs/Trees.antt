@@ -7,7 +7,7 @@ use Rattle.frames.specs.declared.setting.SettingFault.{SettingFault}
 use Rattle.frames.specs.Settings.{count_fault, numbers_fault}
 use Rattle.frames.proofs.Settings.{some_none, miscounted, numbers_accepted}
 use Rattle.kinds.specs.Matroids.{parent_of, may_hold, Parents}
-use Rattle.kinds.proofs.Objectives.{get_d_le}
+use Rattle.kinds.proofs.Objectives.{get_or_le}
 use Rattle.laminar.specs.Trees.{first_bad_parent, or_else, laminar_fault}
 
 module _ (ps : List ℕ) (b : ℕ) (d : ℕ) where
@@ -74,7 +74,7 @@ tree_accepted caps parents e =
     from paired =
         let none = or_none (numbers_fault 96 48 caps) (first_bad_parent 0 parents) (tree_counted caps parents paired ∙ sym e) in
         let low = numbers_accepted 96 48 caps none.0 in
-        record { count = low.0; paired = paired; limit = λ i. get_d_le 48 caps i low.1; tree = λ b. ap (λ n. may_hold n (parent_of parents b)) (omega arith) ∙ bad_none 0 parents none.1 b }
+        record { count = low.0; paired = paired; limit = λ i. get_or_le 48 caps i low.1; tree = λ b. ap (λ n. may_hold n (parent_of parents b)) (omega arith) ∙ bad_none 0 parents none.1 b }
 
 -- a parent fits a byte
 pub parents_low : (parents : List ℕ) → Parents parents → (i : ℕ) → get_or parents i 0 ≤ 255

@@ -5,13 +5,11 @@ ghost use Rattle.kinds.proofs.Lanes.{laminar_matroid, parents_from};
 ghost use Rattle.frames.proofs.Equality.{same-frames};
 ghost use Rattle.laminar.specs.Trees.{laminar_fault};
 
-use crate::tree::{BOXES, check_tree};
+use crate::tree::{BOXES, LANES, check_tree};
 use frames::frame::Frame;
 use frames::setting::{SettingFault, low_bytes};
 use matroids::matroid::Matroid;
 use matroids::room::{Room, takes_chosen};
-
-const LANES: u8 = 64;
 
 // Laminar matroid over a tree of 96 boxes, the first 64 of them the lanes: no box has more frames than its cap. A frame
 // lies in its lane, in that box's parent, and so on up. A lane above 63 has no frames.
@@ -19,7 +17,8 @@ const LANES: u8 = 64;
 pub struct LaminarMatroid {
     // apart from the parents, as each question begins with a copy of the caps alone
     caps: [u8; 96],
-    // as the settings number them: 255 for none
+    // 255 for none: the definitions and each clause speak of the settings' numbers, and an Option would be turned back into
+    // 255 in each of them
     parents: [u8; 96],
     ghost count: { length caps ≡ 96 },
     ghost paired: { length parents ≡ 96 },
@@ -72,14 +71,14 @@ struct BoxesLeft<'a> {
     ghost count: { length left ≡ 96 },
 }
 
-impl<'a> Room for BoxesLeft<'a> {
+impl Room for BoxesLeft<'_> {
     ghost admits = { λ room. laminar (λ x. x.lane) room.tree.now.parents room.left };
 
     fn takes(&mut self, x: &Frame) -> bool {
-        if x.lane >= LANES {
+        let mut b = x.lane as usize;
+        if b >= LANES {
             return false;
         }
-        let mut b = x.lane as usize;
         while b < BOXES {
             if self.left[b] == 0 {
                 return false;

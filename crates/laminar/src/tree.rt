@@ -9,6 +9,9 @@ use matroids::matroid::HIGHEST_CAP;
 
 pub(crate) const BOXES: usize = 96;
 
+// the first boxes are the lanes
+pub(crate) const LANES: usize = 64;
+
 // Checks the settings of a tree of boxes: all lengths, then the caps, then the parents.
 pub(crate) fn check_tree(caps: &[u32], parents: &[u32]) -> Result<(), SettingFault>
     ensures { result_err result ≡ laminar_fault caps.now parents.now }
@@ -37,5 +40,6 @@ fn check_parents(parents: &[u32]) -> Result<(), SettingFault>
 fn may_hold(b: usize, p: u32) -> bool
     ensures { result ≡ may_hold b p }
 {
-    p == 255 || (b < p as usize && p > 63 && p < 96)
+    let p = p as usize;
+    p == 255 || (b < p && (LANES..BOXES).contains(&p))
 }

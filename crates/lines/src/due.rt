@@ -1,6 +1,6 @@
 ghost use Rattle.std.specs.Prelude.{◌≡◌};
 ghost use Rattle.spots.specs.Faults.{spot as spot_at};
-ghost use Rattle.records.specs.Format.{key_bytes, longest};
+ghost use Rattle.records.specs.Format.{longest};
 ghost use Rattle.records.specs.Reading.{line_of};
 
 use crate::place::Place;
@@ -16,21 +16,6 @@ pub(crate) struct Due {
 }
 
 impl Due {
-    // The bytes before the value.
-    pub(crate) fn key_bytes(self) -> &'static [u8]
-        ensures { result.now ≡ key_bytes self.key }
-    {
-        match self.key {
-            Key::Number => b"frame=",
-            Key::Marks => b"marks=",
-            Key::Look => b"look=",
-            Key::Lane => b"lane=",
-            Key::Tail => b"tail=",
-            Key::Head => b"head=",
-            Key::Side => b"side=",
-        }
-    }
-
     // How many bytes the longest value has.
     pub(crate) fn longest(self) -> usize
         ensures { result ≡ longest self.key }

@@ -1,7 +1,7 @@
 #![tactic(auto)]
 
+mod after_key;
 mod due;
-mod key_bytes;
 mod line_fault;
 mod number;
 pub mod place;

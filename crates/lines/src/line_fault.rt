@@ -12,7 +12,7 @@ impl Due {
         requires fits { 0 < length s.now → self.at + length s.now < 2 ^ 64 }
         ensures { result ≡ line_fault_at self.place.«record» self.place.start self.key self.at (key_amiss (key_bytes self.key) s.now) }
     {
-        let n = in_common(self.key_bytes(), s);
+        let n = in_common(self.key.bytes(), s);
         if n == s.len() {
             LineFault::Cut(self.spot(self.place.start))
         } else {
@@ -28,7 +28,7 @@ impl Due {
         if rest.len() <= self.longest() {
             LineFault::Cut(self.spot(self.place.start))
         } else {
-            LineFault::BadForm(self.spot(self.at + self.key_bytes().len()))
+            LineFault::BadForm(self.spot(self.at + self.key.bytes().len()))
         }
     }
 }

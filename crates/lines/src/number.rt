@@ -25,6 +25,7 @@ pub(crate) fn hexadecimal(bytes: &[u8]) -> Option<u64>
 }
 
 // The number that digits of a base write.
+// Not `from_str_radix`: it would take a sign in front, and capitals.
 fn number_in(base: u64, bytes: &[u8]) -> Option<u64>
     requires base { base ≤ 16 }
     requires short { length bytes.now ≤ 16 }

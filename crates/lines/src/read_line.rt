@@ -1,8 +1,8 @@
 ghost use Rattle.std.specs.Prelude.{◌≡◌, ℕ, drop};
 ghost use Rattle.lines.specs.Lines.{LineRead, LineMeans};
 
+use crate::after_key::after_key;
 use crate::due::Due;
-use crate::key_bytes::after_key;
 use crate::place::Place;
 use crate::value::{judge, taken};
 use records::key::Key;
@@ -11,12 +11,7 @@ use records::line_feed::line_feed;
 use spots::fault::LineFault;
 
 // Reads the line that starts at byte `at`, in the record at `place`, where `key` is due. Past the text's end it is cut.
-pub fn read_line<'a>(
-    text: &'a [u8],
-    at: usize,
-    key: Key,
-    place: Place,
-) -> Result<Line<'a>, LineFault>
+pub fn read_line(text: &[u8], at: usize, key: Key, place: Place) -> Result<Line<'_>, LineFault>
     ensures reads { LineRead key text.now at place.«record» place.start result }
     ensures means { LineMeans key text.now at result }
 {

@@ -8,7 +8,7 @@ use records::line::Line;
 use spots::fault::{LineFault, Spot};
 
 // The line of `key` whose value is `bytes`, which start at byte `at`.
-pub(crate) fn taken<'a>(key: Key, bytes: &'a [u8], at: usize) -> Line<'a>
+pub(crate) fn taken(key: Key, bytes: &[u8], at: usize) -> Line<'_>
     requires { length bytes.now ≤ 16 }
     ensures { Taken key bytes.now at result }
 {
@@ -29,7 +29,7 @@ pub(crate) fn taken<'a>(key: Key, bytes: &'a [u8], at: usize) -> Line<'a>
 }
 
 // Judges a value that stands at `spot` by its form, and then by the highest number of its kind.
-pub(crate) fn judge<'a>(line: Line<'a>, spot: Spot) -> Result<Line<'a>, LineFault>
+pub(crate) fn judge(line: Line<'_>, spot: Spot) -> Result<Line<'_>, LineFault>
     ensures { Judged line.entry spot result }
 {
     let number = line.digits().number;

@@ -11,7 +11,7 @@ pub fn chosen_count(frames: &[Frame], places: u64) -> u32
 }
 
 // The set of the places below n.
-fn places_below(n: usize) -> u64
+pub fn places_below(n: usize) -> u64
     ensures { result ≡ 2 ^ min n 64 - 1 }
 {
     if n >= 64 { u64::MAX } else { (1 << n) - 1 }

@@ -10,6 +10,8 @@ use crate::room::{Room, takes_chosen};
 use frames::frame::Frame;
 use frames::setting::{SettingFault, check_numbers, low_bytes};
 
+const LANES: usize = 64;
+
 // Partition matroid: no lane has more frames than its cap, and a lane above 63 has none.
 #[derive(Drop)]
 pub struct PartitionMatroid {
@@ -24,7 +26,7 @@ impl PartitionMatroid {
         ensures fault { result_err result ≡ numbers_fault 64 48 caps.now }
         ensures accepted { IfOk result (λ m. m.caps ≡ caps.now) }
     {
-        check_numbers(caps, 64, HIGHEST_CAP)?;
+        check_numbers(caps, LANES, HIGHEST_CAP)?;
         Ok(PartitionMatroid {
             caps: low_bytes(caps),
         })
@@ -62,7 +64,7 @@ impl Room for LanesLeft {
 
     fn takes(&mut self, x: &Frame) -> bool {
         let lane = x.lane as usize;
-        if lane >= 64 || self.left[lane] == 0 {
+        if lane >= LANES || self.left[lane] == 0 {
             return false;
         }
         self.left[lane] -= 1;

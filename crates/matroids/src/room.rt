@@ -8,7 +8,8 @@ use frames::frame::Frame;
 pub trait Room: Drop {
     ghost admits: { Self → List FrameOf → Bool };
 
-    // Whether x fits. A frame that fits is taken, and leaves less room.
+    // Whether x fits. A frame that fits is taken, and leaves less room. After `false` the room is not asked again, so
+    // nothing is said of what is left then.
     fn takes(&mut self, x: &Frame) -> bool
         ensures { (s : List FrameOf) → admits self.old (x.now ∷ s) ≡ (result && admits self.new s) };
 
@@ -20,7 +21,8 @@ pub trait Room: Drop {
 pub fn takes_chosen<R: Room>(mut room: R, frames: &[Frame], places: u64) -> bool
     ensures { result ≡ R.admits room (chosen frames.now places) }
 {
-    // a set goes by bit by bit, the lowest place first, and no index is counted
+    // the lowest bit of `rest` is the place of x; shifting `places` by an index would have to be proved in range past
+    // place 63
     let mut rest = places;
     for x in frames {
         if rest % 2 == 1 && !room.takes(x) {

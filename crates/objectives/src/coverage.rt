@@ -8,12 +8,14 @@ use crate::objective::Objective;
 use frames::frame::Frame;
 use frames::setting::{SettingFault, check_numbers};
 
+const CLASSES: usize = 64;
+
 const HIGHEST_WEIGHT: u32 = 67_108_863;
 
 // Weighted coverage: the value of a list of frames is the sum of the weights of the classes that any of them shows.
 #[derive(Drop)]
 pub struct Coverage {
-    weights: [u32; 64],
+    weights: [u32; CLASSES],
     // the classes that the frames added since the last reset show
     covered: u64,
     ghost count: { length weights ≡ 64 },
@@ -26,11 +28,9 @@ impl Coverage {
         ensures fault { result_err result ≡ numbers_fault 64 67108863 weights.now }
         ensures accepted { IfOk result (λ c. (c.weights ≡ weights.now) × (c.covered ≡ 0)) }
     {
-        check_numbers(weights, 64, HIGHEST_WEIGHT)?;
-        let mut own = [0; 64];
-        own.copy_from_slice(weights);
+        check_numbers(weights, CLASSES, HIGHEST_WEIGHT)?;
         Ok(Coverage {
-            weights: own,
+            weights: weights.try_into().unwrap(),
             covered: 0,
         })
     }
@@ -55,6 +55,7 @@ impl Objective for Coverage {
     fn gain(&self, x: &Frame) -> u32 {
         let shown = x.marks & !self.covered;
         let mut gain = 0;
+        // a rule of the project: a loop over the weights with their index, not a chain
         for (i, weight) in self.weights.iter().enumerate() {
             if (shown >> i) % 2 == 1 {
                 gain += *weight;

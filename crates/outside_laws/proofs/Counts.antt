@@ -1,9 +1,9 @@
 -- The laws of the count up to a cap, and of the lists of at most so many frames. Assumes nothing.
-use Rattle.std.proofs.Common.{◌≡◌, ℕ, suc, ◌-◌, ◌≤◌, min, Bool, true, leb, List, [], ◌∷◌, length, arith}
+use Rattle.std.proofs.Common.{◌≡◌, ℕ, suc, ◌-◌, ◌≤◌, min, Bool, leb, List, [], ◌∷◌, length, arith}
 use Rattle.std.proofs.lemmas.Bool.{leb-true, le-leb}
 use Rattle.theory.specs.Bag.{Same}
 use Rattle.theory.specs.Laws.{Lawful, MatroidLaws}
-use Rattle.theory.proofs.Orders.{orderless_after, orderless_length, occurs_more, count_by_all}
+use Rattle.theory.proofs.Orders.{orderless_after, orderless_length, longer_has_more}
 use Rattle.outside_laws.specs.Counts.{count_up_to, uniform}
 
 module _ {A : Type 0} where
@@ -26,5 +26,5 @@ module _ {A : Type 0} where
     nothing = le-leb 0 most (omega arith);
     order = orderless_after (λ k. leb k most) length orderless_length;
     fewer = λ x s h. le-leb (length s) most (omega (arith, leb-true (suc (length s)) most h));
-    exchange = λ s t hs ht l. let got = occurs_more eq (λ x. true) t s (omega (arith, count_by_all s, count_by_all t)) in (got.0, got.2, le-leb (suc (length s)) most (omega (arith, leb-true (length t) most ht)));
+    exchange = λ s t hs ht l. let got = longer_has_more eq s t l in (got.0, got.1, le-leb (suc (length s)) most (omega (arith, leb-true (length t) most ht)));
   }

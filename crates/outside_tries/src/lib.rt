@@ -23,11 +23,10 @@ mod tests {
         }
     }
 
-    // Four frames come after the clear, one of them in the text, and three may stand together.
-    #[test]
-    fn counts_since_the_clear(rt: HostRuntime) -> Result<(), Fail> {
+    // Four frames come after the clear, one of them in the text.
+    fn shift() -> [Call<'static>; 7] {
         let offer = Call::Offer(seventh());
-        let calls = [
+        [
             offer,
             Call::Clear,
             offer,
@@ -35,7 +34,13 @@ mod tests {
             Call::Look(0),
             offer,
             offer,
-        ];
+        ]
+    }
+
+    // Four frames come after the clear, one of them in the text, and three may stand together.
+    #[test]
+    fn counts_since_the_clear(rt: HostRuntime) -> Result<(), Fail> {
+        let calls = shift();
         assert_eq!(rt; counted(Size::new(4)?, 5, 3, &calls, &mut []), 3);
         Ok(())
     }
@@ -43,17 +48,8 @@ mod tests {
     // The same shift, and the digest of it.
     #[test]
     fn prints_since_the_clear(rt: HostRuntime) -> Result<(), Fail> {
-        let offer = Call::Offer(seventh());
-        let calls = [
-            offer,
-            Call::Clear,
-            offer,
-            Call::Text(RECORD),
-            Call::Look(0),
-            offer,
-            offer,
-            Call::Print,
-        ];
+        let mut calls = [Call::Print; 8];
+        calls[..7].copy_from_slice(&shift());
         let mut sheet = [0; 512];
         assert_eq!(rt; counted(Size::new(4)?, 5, 3, &calls, &mut sheet), 3);
         assert!(rt; sheet.starts_with(DIGEST));

@@ -35,6 +35,7 @@ pub fn read_record(text: &[u8], at: usize, record: usize) -> Result<(Frame, usiz
 }
 
 // The value of the line at byte `at`, where `key` is due, and the byte behind the line.
+// The number is never none: only where a value is written as its kind is, the line is read.
 fn value_at(text: &[u8], at: usize, key: Key, place: Place) -> Result<(u64, usize), LineFault>
     ensures { ValueRead key text.now at place.«record» place.start result }
 {

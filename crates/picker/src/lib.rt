@@ -1,9 +1,10 @@
 #![tactic(auto)]
 
 mod arrival;
-pub mod clear;
-pub mod looks;
-pub mod offer;
-pub mod opening;
+mod clear;
+mod looks;
+mod offer;
+mod opening;
 pub mod picker;
-pub mod text;
+mod shift;
+mod text;

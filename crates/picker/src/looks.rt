@@ -31,7 +31,7 @@ impl<W: Objective, R: Matroid> Picker<W, R> {
     {
         Counts {
             size: self.size.get() as u32,
-            kept: self.table.entries().len() as u32,
+            kept: self.table.len() as u32,
             took: self.took,
             seen: self.seen,
             gain: self.gain,

@@ -16,6 +16,7 @@ use matroids::matroid::Matroid;
 use objectives::objective::Objective;
 
 impl<W: Objective, R: Matroid> Picker<W, R> {
+    // What `keep` and `swap` share is not drawn out: the picker between would need a promise of its own, longer than these.
     // The gain stands beside the arrival, which tells that its frame is in range, as an entry would not.
     fn keep(&mut self, arrival: Arrival, gain: u32)
         requires seen { self.old.took < self.old.seen }
@@ -23,10 +24,12 @@ impl<W: Objective, R: Matroid> Picker<W, R> {
         ensures { Accepting W.Objective arrival.frame gain (held self.old.table ++ ((arrival.frame, gain) ∷ [])) self.old self.new }
     {
         self.objective.add(&arrival.frame);
-        let _ = self.table.push(Entry {
-            frame: arrival.frame,
-            gain,
-        });
+        self.table
+            .push(Entry {
+                frame: arrival.frame,
+                gain,
+            })
+            .unwrap();
         self.took += 1;
         self.gain += u64::from(gain);
         self.told += u64::from(gain);
@@ -70,7 +73,7 @@ impl<W: Objective, R: Matroid> Picker<W, R> {
         match outcome {
             Outcome::Kept { gain, .. } => self.keep(arrival, gain),
             Outcome::Swapped { place, gain, .. } => self.swap(arrival, gain, place),
-            _ => {}
+            Outcome::Empty | Outcome::Light { .. } | Outcome::Barred { .. } => {}
         }
         outcome
     }
@@ -83,7 +86,7 @@ impl<W: Objective, R: Matroid> Picker<W, R> {
         if x.lane > 63 || x.side > 1 {
             return Err(Refusal::Over);
         }
-        if self.seen == 1_000_000 {
+        if self.is_full() {
             return Err(Refusal::ShiftFull);
         }
         Ok(self.take_in(Arrival { frame: x }))

@@ -12,7 +12,8 @@ pub struct Picker<W, R> {
     pub(crate) matroid: R,
     pub(crate) table: KeptTable,
     pub(crate) size: Size,
-    // accepted frames, taken-in frames, and the gains of the kept and of all accepted frames
+    // accepted frames, taken-in frames, and the gains of the kept and of all accepted frames; apart, as the facts below tie
+    // each to the table or to another
     pub(crate) took: u32,
     pub(crate) seen: u32,
     pub(crate) gain: u64,

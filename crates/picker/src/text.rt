@@ -9,6 +9,9 @@ use matroids::matroid::Matroid;
 use objectives::objective::Objective;
 use reading::reader::Records;
 
+// The most bytes of a text that is looked into.
+const LONGEST_TEXT: usize = 65_536;
+
 impl<W: Objective, R: Matroid> Picker<W, R> {
     // Takes in the frame of a record, unless the shift is full.
     fn take_record(
@@ -19,7 +22,7 @@ impl<W: Objective, R: Matroid> Picker<W, R> {
     ) -> Result<(), RecordFault>
         ensures { RecordOffered W.Objective R.Matroid self.old arrival.frame «record» start result self.new }
     {
-        if self.seen == 1_000_000 {
+        if self.is_full() {
             return Err(RecordFault::ShiftFull {
                 record,
                 byte: start,
@@ -35,7 +38,7 @@ impl<W: Objective, R: Matroid> Picker<W, R> {
         ensures step { TextOffered W.Objective R.Matroid self.old text.now result self.new }
         ensures carries { Carries W.Objective R.Matroid (reading text.now) self.old self.new }
     {
-        if text.len() > 65_536 {
+        if text.len() > LONGEST_TEXT {
             return Err(TextFault::LongText);
         }
         let mut records = Records::new(text);

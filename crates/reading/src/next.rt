@@ -7,7 +7,7 @@ use faults::fault::RecordFault;
 use frames::frame::Frame;
 use parsing::read_record::read_record;
 
-impl<'a> Records<'a> {
+impl Records<'_> {
     // The frame of the next record, or none at the text's end. After a fault the same record is still to be read.
     // No `Iterator`: after a fault its items would not end, so `for` could not take them, and its `count` would hide ours.
     pub fn next(&mut self) -> Result<Option<Frame>, RecordFault>

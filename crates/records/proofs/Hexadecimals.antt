@@ -16,7 +16,7 @@ digit_hex d h = grind (arith, nat_tests)
 hex_digit_lem : (c : ℕ) → digit c < 16 → hex_digit (digit c) ≡ c
 hex_digit_lem c h = grind (arith, nat_tests)
 
-length_hex : (k n : ℕ) → length (hex_digits k n) ≡ k
+pub length_hex : (k n : ℕ) → length (hex_digits k n) ≡ k
 length_hex zero n = refl
 length_hex (suc k) n = length_push (hex_digits k (n / 16)) (hex_digit (n % 16)) ∙ omega (arith, length_hex k (n / 16))
 

@@ -1,5 +1,5 @@
 -- How many decimal digits a number takes, and that its sixteen digits are two for each of its bytes. Assumes nothing.
-use Rattle.std.proofs.Common.{◌≡◌, ℕ, zero, suc, ◌*◌, ◌/◌, ◌%◌, ◌^◌, ◌<◌, ◌≤◌, ◌+◌, ◌==◌, Bool, true, ◌&&◌, List, [], ◌∷◌, ◌++◌, length, slice_index, refl, sym, ap, ◌∙◌, decimal, add-one, append_assoc, arith, inl, inr}
+use Rattle.std.proofs.Common.{◌≡◌, ℕ, zero, suc, ◌*◌, ◌/◌, ◌%◌, ◌^◌, ◌<◌, ◌≤◌, ◌+◌, ◌==◌, Bool, true, ◌&&◌, List, [], ◌∷◌, ◌++◌, length, slice_index, refl, sym, ap, ◌∙◌, decimal, append_assoc, arith, inl, inr}
 use Rattle.std.proofs.lemmas.Bool.{and_parts, cases_lt, eqb-true}
 use Rattle.std.proofs.lemmas.Fmt.{decimal_digit, decimal_nonempty, decimal_step, length-decimal-le}
 use Rattle.std.proofs.lemmas.List.{length_push}
@@ -7,15 +7,11 @@ use Rattle.std.specs.Int.{byte_at, bytes_high_first}
 use native.Mathlib.Nat.{div-div-eq-div-mul, pow-succ'}
 use Rattle.hex.specs.Hex.{encode_with, encode_lower, lower_digits}
 use Rattle.records.specs.Format.{hex_digit, hex_digits, hexadecimal}
-
-length-hex_digits : (k n : ℕ) → length (hex_digits k n) ≡ k
-length-hex_digits zero n = refl
-length-hex_digits (suc k) n =
-    length_push (hex_digits k (n / 16)) (hex_digit (n % 16)) ∙ add-one (length (hex_digits k (n / 16))) ∙ ap suc (length-hex_digits k (n / 16))
+use Rattle.records.proofs.Hexadecimals.{length_hex}
 
 pub sixteen_long : (n : ℕ) → length (hexadecimal n) ≡ 16
 unfolding hexadecimal
-sixteen_long n = length-hex_digits 16 n
+sixteen_long n = length_hex 16 n
 
 -- the digits of the numbers below n are the table's, which computes
 abbrev agree : ℕ → Bool

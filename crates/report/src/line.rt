@@ -9,6 +9,7 @@ use crate::written::Written;
 use faults::fault::TextFault;
 use frames::entry::Entry;
 use frames::frame::Frame;
+use records::key::Key;
 use spots::fault::Fault;
 
 // A line of a print-out: its key with the `=`, and its value.
@@ -52,16 +53,16 @@ pub(crate) fn record_lines(x: &Frame) -> [Line; 7]
     ensures { lines_text result ≡ shown x.now }
 {
     [
-        Line::decimal(b"frame=", x.number as u64),
+        Line::decimal(Key::Number.bytes(), x.number as u64),
         Line {
-            key: b"marks=",
+            key: Key::Marks.bytes(),
             value: Value::Hexadecimal(x.marks),
         },
-        Line::decimal(b"look=", x.look as u64),
-        Line::decimal(b"lane=", x.lane as u64),
-        Line::decimal(b"tail=", x.tail as u64),
-        Line::decimal(b"head=", x.head as u64),
-        Line::decimal(b"side=", x.side as u64),
+        Line::decimal(Key::Look.bytes(), x.look as u64),
+        Line::decimal(Key::Lane.bytes(), x.lane as u64),
+        Line::decimal(Key::Tail.bytes(), x.tail as u64),
+        Line::decimal(Key::Head.bytes(), x.head as u64),
+        Line::decimal(Key::Side.bytes(), x.side as u64),
     ]
 }
 

@@ -6,6 +6,7 @@ ghost use Rattle.records.specs.Sheets.{over, Printed};
 use frames::refusal::Refusal;
 
 // What is written at the front of a sheet.
+// No `Display`: a sheet that is too short stays as it was, so the room is asked for before a byte is written.
 pub(crate) trait Written {
     // Its bytes.
     ghost text: { Self → List ℕ };

@@ -2,22 +2,14 @@
 use Rattle.std.proofs.Common.{◌≡◌, ℕ, ◌+◌, ◌*◌, ◌^◌, ◌<◌, ◌≤◌, List, [], ◌∷◌, ◌++◌, length, drop, Some, None, sym, refl, ap, ◌∙◌, ap₂, arith}
 use Rattle.std.specs.List.{flat_map}
 use Rattle.std.proofs.lemmas.List.{length-append, length-drop, nil_from_length}
-use Rattle.picker.specs.Calls.{Called, offering, reading, looking, counting, printing, clearing}
 use Rattle.runs.specs.Runs.{called}
 use Rattle.encoding.specs.Answers.{fixed_of}
 use Rattle.encoding.specs.Reading.{Head, Reads}
 use Rattle.encoding.specs.Requests.{Requested, offer, text, look_up, counts, print_out, clear, called_of, room_of, bytes_of, Fits, Encodes}
 use Rattle.encoding.specs.declared.request.Request.{Request}
+use Rattle.encoding.proofs.Lengths.{few_fixed}
 use Rattle.encoding.proofs.Reader.{some_bytes}
 use Rattle.serving.specs.Serving.{due_of, due_all, Due}
-
-pub few_fixed : (c : Called) → fixed_of c ≤ 32
-few_fixed (offering x) = omega arith
-few_fixed (reading t) = omega arith
-few_fixed (looking i) = omega arith
-few_fixed counting = omega arith
-few_fixed printing = omega arith
-few_fixed clearing = omega arith
 
 pub small_room : (q : Requested) → Fits q → room_of q < 2 ^ 32
 small_room (offer x) h = omega arith
@@ -50,8 +42,11 @@ before t x q ds k e = record { joins = ap (λ u. bytes_of q ++ u) e.joins ∙ sy
 pub head_long : (t : List ℕ) (x : Request) (q : Requested) → Head t x q → x.length ≤ length t
 head_long t x q k = omega (arith, k.length, length-append (bytes_of q) (drop x.length t), ap length k.back)
 
-pub head_due : (t : List ℕ) (x : Request) (q : Requested) → Head t x q → fixed_of (called x.call) + x.room ≡ due_of q
+head_due : (t : List ℕ) (x : Request) (q : Requested) → Head t x q → fixed_of (called x.call) + x.room ≡ due_of q
 head_due t x q k = ap₂ (λ c n. fixed_of c + n) k.call k.room
+
+pub due_is : (n : ℕ) (t : List ℕ) (x : Request) (q : Requested) → n ≡ fixed_of (called x.call) + x.room → Head t x q → n ≡ due_of q
+due_is n t x q e k = e ∙ head_due t x q k
 
 module _ (s : List ℕ) where
   -- the calls before the bytes t take `due` bytes of answers, and t are calls just where all the bytes are
@@ -59,9 +54,6 @@ module _ (s : List ℕ) where
     pub small : due + 2 ^ 33 * length t ≤ 2 ^ 33 * length s
     pub back : (ds : List Requested) → Encodes ds t → (cs : List Requested) × Encodes cs s × (due + due_all ds ≡ due_all cs)
     pub on : (cs : List Requested) → Encodes cs s → (ds : List Requested) × Encodes ds t
-
-  pub walk_none : Walk s 0
-  walk_none = record { small = omega arith; back = λ ds e. (ds, e, omega arith); on = λ cs e. (cs, e) }
 
   pub walk_more : (t : List ℕ) (due : ℕ) (x : Request) → Walk t due → (q : Requested) × Head t x q → Walk (drop x.length t) (due + (fixed_of (called x.call) + x.room))
   walk_more t due x w (q, k) =
@@ -88,8 +80,3 @@ module _ (s : List ℕ) where
   walk_all t due none w =
       let b = w.back [] (record { joins = sym (nil_from_length t none); fit = tt }) in
       (b.0, b.1, omega (arith, b.2))
-
--- how much the loop may still add
-pub small_due : (k : ℕ) (x : Request) (t : List ℕ) → k ≡ fixed_of (called x.call) → (q : Requested) × Head t x q → (k + x.room < 2 ^ 33) × (1 ≤ x.length) × (x.length ≤ length t)
-small_due k x t is (q, r) =
-    (omega (arith, is, r.room, few_fixed (called x.call), small_room q r.fits), omega (arith, r.length, some_bytes q), head_long t x q r)

@@ -1,4 +1,4 @@
-// Why a run is refused, each with the number by which users know it; a frame's refusals go up to 12.
+// Why a run is refused, each with the number by which users know it, behind the refusals of `frames::refusal`.
 #[derive(Clone, Copy, PartialEq, Eq, Debug)]
 pub enum RunRefusal {
     // the bytes are no calls

@@ -25,10 +25,11 @@ fn answers_due(calls: &[u8]) -> Option<u128>
     ensures { Due calls.now result }
 {
     let mut rest = calls;
+    // in 128 bits: many calls may each ask for a print-out of 2^32 bytes, which are more than 64 bits count
     let mut due: u128 = 0;
     while !rest.is_empty() {
         let request = read_request(rest)?;
-        due += (request.fixed() + request.room) as u128;
+        due += request.due();
         rest = &rest[request.length..];
     }
     Some(due)
@@ -58,13 +59,15 @@ fn answer_all<W: Objective + Drop, R: Matroid + Drop>(
     ensures { (cs : List Requested) → Encodes cs calls.now → due_all cs ≤ length answers.old → answers.new ≡ answered_all (W.Objective.value picker.objective) (R.Matroid.admits picker.matroid) picker.size.n [] cs answers.old }
 {
     let mut rest = calls;
-    // A count, since a check forgets what was written to a `&mut` slice that shrinks in a loop.
+    // Tried as a slice that shrinks: the proof lost what was written.
     let mut to = 0;
     while let Some(request) = read_request(rest) {
-        let due = request.fixed() + request.room;
-        if due > answers.len() - to {
+        let due = request.due();
+        if due > (answers.len() - to) as u128 {
+            // never met: the answers due were found to fit
             return;
         }
+        let due = due as usize;
         answer(&mut picker, &request, &mut answers[to..to + due]);
         rest = &rest[request.length..];
         to += due;

@@ -1,12 +1,12 @@
 -- The laws hold of a small case, and a replay of it computes. Assumes nothing.
-use Rattle.std.proofs.Common.{◌≡◌, ℕ, suc, min, Bool, true, eqb, leb, List, [], ◌∷◌, length, sum_by, refl, arith}
+use Rattle.std.proofs.Common.{◌≡◌, ℕ, suc, min, Bool, eqb, leb, List, [], ◌∷◌, length, sum_by, refl, arith}
 use Rattle.std.proofs.lemmas.List.Sums.{sum_by-cons}
 use Rattle.std.proofs.lemmas.Bool.{eqb-true, eq-eqb, leb-true, le-leb}
 use Rattle.theory.specs.Bag.{Same}
 use Rattle.theory.specs.Laws.{Submodular, MatroidLaws}
 use Rattle.theory.specs.Replay.{replay}
 use Rattle.theory.specs.Promise.{Promised}
-use Rattle.theory.proofs.Orders.{orderless_after, orderless_sum_by, orderless_length, occurs_more, count_by_all}
+use Rattle.theory.proofs.Orders.{orderless_after, orderless_sum_by, orderless_length, longer_has_more}
 use Rattle.theory.proofs.Theorem.{stands}
 
 -- a frame is a number, and the value of a bag is its sum, ten at most
@@ -33,7 +33,7 @@ two_laws = record {
   nothing = refl;
   order = orderless_after (λ k. leb k 2) length orderless_length;
   fewer = λ x s h. le-leb (length s) 2 (omega (arith, leb-true (suc (length s)) 2 h));
-  exchange = λ s t hs ht l. let got = occurs_more same_numbers (λ x. true) t s (omega (arith, count_by_all s, count_by_all t)) in (got.0, got.2, le-leb (suc (length s)) 2 (omega (arith, leb-true (length t) 2 ht)));
+  exchange = λ s t hs ht l. let got = longer_has_more same_numbers s t l in (got.0, got.1, le-leb (suc (length s)) 2 (omega (arith, leb-true (length t) 2 ht)));
 }
 
 -- 1 and 2 are kept; 5 takes the place of 1; 3 adds 2 and is passed, since twice 2 is more; 9 adds 2 and is passed too

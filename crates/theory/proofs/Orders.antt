@@ -19,7 +19,7 @@ orderless_fold h op is past (z ∷ p) x y s = is z (p ++ (x ∷ y ∷ s)) ∙ ap
 pub orderless_sum_by : {A : Type 0} (v : A → ℕ) → Orderless (sum_by v)
 orderless_sum_by v p x y s = omega (arith, sum_by-append v p (x ∷ y ∷ s), sum_by-append v p (y ∷ x ∷ s), sum_by-cons v x (y ∷ s), sum_by-cons v y s, sum_by-cons v y (x ∷ s), sum_by-cons v x s)
 
--- what no shuffle changes
+-- for laws of one's own: what no permutation changes does not go by the order, and permutations are alike
 shuffled_next : {A : Type 0} (p : List A) (x y : A) (s : List A) → IsPermutation (p ++ (x ∷ y ∷ s)) (p ++ (y ∷ x ∷ s))
 shuffled_next [] x y s = IsPermutation-swap (x ∷ y ∷ s) (y ∷ x ∷ s) 0 1 (omega arith) (omega arith) refl
 shuffled_next (z ∷ p) x y s = IsPermutation-cons z (p ++ (x ∷ y ∷ s)) (p ++ (y ∷ x ∷ s)) (shuffled_next p x y s)
@@ -63,3 +63,7 @@ module _ {A : Type 0} {same : A → A → Bool} (eq : Same same) (p : A → Bool
 pub count_by_all : {A : Type 0} (s : List A) → count_by (λ x. true) s ≡ length s
 count_by_all [] = refl
 count_by_all {A} (x ∷ s) = omega (arith, count_by_all s, sum_by-cons (λ (y : A). cond true 1 0) x s)
+
+-- the longer list has an element more often
+pub longer_has_more : {A : Type 0} {same : A → A → Bool} → Same same → (s t : List A) → length s < length t → (x : A) × (count same x s < count same x t)
+longer_has_more eq s t l = let got = occurs_more eq (λ x. true) t s (omega (arith, count_by_all s, count_by_all t)) in (got.0, got.2)

@@ -1,8 +1,8 @@
-use Rattle.std.proofs.Common.{◌≡◌, ℕ, List, [], ◌∷◌, Some, None, Ok, Option, Result, ap, subst}
+use Rattle.std.proofs.Common.{◌≡◌, ℕ, List, [], ◌∷◌, Some, Option, refl, ap, subst}
 use Rattle.frames.specs.declared.frame.Frame.{Frame}
-use Rattle.frames.specs.declared.refusal.Refusal.{Refusal}
-use Rattle.frames.specs.declared.setting.SettingFault.{SettingFault}
 use Rattle.frames.specs.Settings.{numbers_fault}
+use Rattle.frames.proofs.Settings.{some_none}
+use Rattle.records.proofs.Results.{same_ok}
 use Rattle.kinds.specs.Matroids.{partition}
 use Rattle.kinds.specs.Objectives.{coverage}
 use Rattle.kept.specs.Tables.{held}
@@ -12,12 +12,6 @@ use Rattle.runs.specs.declared.call.Answer.{Answer}
 use Rattle.runs.specs.Runs.{answer_after}
 use Rattle.cases.specs.Program.{places, weights, caps}
 use Rattle.digest.proofs.shift.Goals as goal
-
-same_ok : (m n : ℕ) → ◌≡◌ {A = Result ℕ Refusal} (Ok m) (Ok n) → m ≡ n
-same_ok m n e = cc
-
-no_fault : (e : SettingFault) → ◌≡◌ {A = Option SettingFault} (Some e) None → ⊥
-no_fault e h = cc
 
 -- what is promised of the run for settings, with what it leaves in the sheet and answers
 abbrev Ran : List ℕ → List ℕ → ℕ → List ℕ → List ℕ → List ℕ → Option Answer → List (Frame × ℕ) → ℕ → Type 0
@@ -32,15 +26,15 @@ ran_at text s t a es took {ws} {ws'} {cs} {cs'} {n} {n'} ew ec en r =
 pub returns : goal.returns
 unfolding weights caps
 returns c =
-    let size : c.in_ok-size.size.n ≡ places = same_ok _ places c.in_ok-size.ensures in
+    let size : c.in_ok-size.size.n ≡ places = same_ok _ _ places refl c.in_ok-size.ensures in
     let p = c.run.result.picker in
     let both = ran_at c.args.text.now c.args.sheet.now c.run.new.sheet c.run.result.answer (held p.table) p.took {ws' = weights} {cs' = caps} c.in_ok-objective.ensures.accepted.0 c.in_ok-matroid.ensures.accepted size (c.run.ensures.label, c.run.ensures.left) in
     record { ran = (both.0, ap (λ r. r.1) both.1); sheet = ap (λ r. r.0) both.1 }
 
 pub returns-in_err-objective-clause-ran : goal.returns-in_err-objective-clause-ran
 unfolding numbers_fault
-returns-in_err-objective-clause-ran c = absurd (no_fault c.in_err-objective.field-0.0 c.in_err-objective.ensures.fault)
+returns-in_err-objective-clause-ran c = absurd (some_none c.in_err-objective.field-0.0 c.in_err-objective.ensures.fault)
 
 pub returns-in_err-matroid-clause-ran : goal.returns-in_err-matroid-clause-ran
 unfolding numbers_fault
-returns-in_err-matroid-clause-ran c = absurd (no_fault c.in_err-matroid.field-0.0 c.in_err-matroid.ensures.fault)
+returns-in_err-matroid-clause-ran c = absurd (some_none c.in_err-matroid.field-0.0 c.in_err-matroid.ensures.fault)

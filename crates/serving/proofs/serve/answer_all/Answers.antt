@@ -1,11 +1,11 @@
-use Rattle.std.proofs.Common.{◌≡◌, ◌+◌, ◌-◌, length, take, drop, sym, ap, ◌∙◌, subst, arith}
+use Rattle.std.proofs.Common.{◌≡◌, ◌+◌, ◌-◌, length, take, drop, sym, subst, arith}
 use borrow.Rule.Slice.PartMut.{put_mid}
 use Rattle.std.proofs.lemmas.List.{take_rest}
 use Rattle.runs.specs.Runs.{called}
 use Rattle.serving.specs.Answering.{Answered}
 use Rattle.serving.specs.Serving.{due_of}
 use Rattle.serving.proofs.Runs.{Led, led_none, led_more, led_all, led_short, window_long}
-use Rattle.serving.proofs.Walks.{head_due}
+use Rattle.serving.proofs.Walks.{due_is}
 use Rattle.serving.proofs.serve.answer_all.Goals as goal
 
 pub loop-request-init : goal.loop-request-init
@@ -18,8 +18,8 @@ returns-then-due-answers g c =
     let x = c.in-Some.request in
     let q = c.in-Some.ensures.0 in
     let k = c.in-Some.ensures.1 in
-    let is : c.fixed.result + x.room ≡ due_of q = ap (λ n. n + x.room) c.fixed.ensures ∙ head_due l.rest.now x q k in
-    led_short g.W.Objective g.R.Matroid c.args.picker c.args.calls.now c.args.answers.now l.rest.now l.to (c.fixed.result + x.room) x q l.picker l.answers k is c.if-due-answers.true l.invariant
+    let is : c.due-due.result ≡ due_of q = due_is c.due-due.result l.rest.now x q c.due-due.ensures k in
+    led_short g.W.Objective g.R.Matroid c.args.picker c.args.calls.now c.args.answers.now l.rest.now l.to c.due-due.result x q l.picker l.answers k is c.if-due-answers.true l.invariant
 
 pub loop-request-preserved : goal.loop-request-preserved
 loop-request-preserved g c =
@@ -28,8 +28,8 @@ loop-request-preserved g c =
     let x = c.in-Some.request in
     let q = c.in-Some.ensures.0 in
     let k = c.in-Some.ensures.1 in
-    let m = c.fixed.result + x.room in
-    let is : m ≡ due_of q = ap (λ n. n + x.room) c.fixed.ensures ∙ head_due l.rest.now x q k in
+    let m = c.due-due.result in
+    let is : m ≡ due_of q = due_is c.due-due.result l.rest.now x q c.due-due.ensures k in
     let same : l.to + m - l.to ≡ m = omega arith in
     let p = c.answer.new.picker in
     let v = c.answer.new.window in

@@ -18,8 +18,8 @@ loop-rest-preserved c =
     let s = c.args.calls.now in
     let l = c.loop-rest in
     let x = c.in_ok-request.request in
-    subst (λ t. Walk s t (l.due + (c.fixed.result + x.room))) (sym (take_rest l.rest.now x.length))
-    (subst (λ k. Walk s (drop x.length l.rest.now) (l.due + (k + x.room))) (sym c.fixed.ensures) (walk_more s l.rest.now l.due x l.invariant c.in_ok-request.ensures))
+    subst (λ t. Walk s t (l.due + c.due-due.result)) (sym (take_rest l.rest.now x.length))
+    (subst (λ k. Walk s (drop x.length l.rest.now) (l.due + k)) (sym c.due-due.ensures) (walk_more s l.rest.now l.due x l.invariant c.in_ok-request.ensures))
 
 pub returns : goal.returns
 returns c =

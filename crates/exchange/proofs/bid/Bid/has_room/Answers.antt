@@ -1,4 +1,4 @@
-use Rattle.std.proofs.Common.{◌≡◌, ◌<◌, Bool, ◌&&◌, ◌∷◌, length, sym, ap, ◌∙◌, arith}
+use Rattle.std.proofs.Common.{◌≡◌, ◌-◌, ◌^◌, ◌<◌, min, Bool, ◌&&◌, ◌∷◌, length, sym, ap, ◌∙◌, arith}
 use Rattle.std.proofs.lemmas.Bool.{lt-ltb}
 use Rattle.theory.specs.Replay.{frames}
 use Rattle.kept.specs.Tables.{held}
@@ -12,6 +12,8 @@ returns-then-len-get g c =
     let t = b.table.now in
     let adm = g.R.Matroid.admits b.matroid.now in
     let l : length (held t) < c.args.size.n = omega (arith, length-held t, c.len.ensures, c.get.ensures.value, c.if-len-get.true) in
+    let few : min c.len-then-len-get.result 64 ≡ c.len-then-len-get.result = omega arith in
+    let set = c.places_below.ensures ∙ ap (λ n. 2 ^ n - 1) few in
     let stands : Bool = adm (b.frame ∷ frames (held t)) in
-    let asked : c.independent.result ≡ stands = asked_all adm t b.frame b.row.items b.lined c.len-then-len-get.result c.len-then-len-get.ensures.value c.as_slice.result.now c.as_slice.ensures.value c.all.result c.independent.result c.independent.ensures c.all.ensures in
+    let asked : c.independent.result ≡ stands = asked_all adm t b.frame b.row.items b.lined c.len-then-len-get.result c.len-then-len-get.ensures.value c.as_slice.result.now c.as_slice.ensures.value c.places_below.result c.independent.result c.independent.ensures set in
     ◌∙◌ {b = stands} asked (ap (λ s. s && stands) (sym (lt-ltb (length (held t)) c.args.size.n l)))

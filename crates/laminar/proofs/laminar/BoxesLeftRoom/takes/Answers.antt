@@ -5,8 +5,8 @@ use Rattle.kinds.proofs.Meanings.{laminar_takes, laminar_full}
 use Rattle.laminar.proofs.Ways.{Upto, up_more, up_full, up_all, parent_above}
 use Rattle.laminar.proofs.laminar.BoxesLeftRoom.takes.Goals as goal
 
-pub returns-then-x-ge-LANES : goal.returns-then-x-ge-LANES
-returns-then-x-ge-LANES c = λ s. laminar_full (λ y. y.lane) c.args.self.now.tree.now.parents c.args.self.now.left c.args.x.now s (inl (omega arith))
+pub returns-then-b-ge-LANES : goal.returns-then-b-ge-LANES
+returns-then-b-ge-LANES c = λ s. laminar_full (λ y. y.lane) c.args.self.now.tree.now.parents c.args.self.now.left c.args.x.now s (inl (omega arith))
 
 pub returns-then-self-b-eq0 : goal.returns-then-self-b-eq0
 returns-then-self-b-eq0 c = λ s.

@@ -32,7 +32,7 @@ returns-in_err-x g c =
     let at-t : NextRead t rs.at rs.count c.next.new.self.at c.next.new.self.count (Err f) = subst (λ t. NextRead t rs.at rs.count c.next.new.self.at c.next.new.self.count (Err f)) c.loop-x.invariant.0 c.in_err-x.ensures.cases in
     let out = err_from_is_err_and c.from_residual.result c.from_residual.ensures.1 in
     let step =
-    text_offered g.W.Objective g.R.Matroid p t c.args.text.now _ _ c.loop-x.self c.new-records.ensures.text (out.1 ∙ ap Err out.2) c.if-text-gt65536.false
+    text_offered g.W.Objective g.R.Matroid p t c.args.text.now _ _ c.loop-x.self c.new-records.ensures.text (out.1 ∙ ap Err out.2) c.if-text-gt-LONGEST_TEXT.false
     (done_refused g.W.Objective g.R.Matroid p t rs.at rs.count c.loop-x.self c.loop-x.invariant.1 f at-t.0 at-t.1) in
     record { step = step; carries = λ h k. met_text g.W.Objective g.R.Matroid h p c.args.text.now _ _ step k }
 
@@ -45,7 +45,7 @@ returns-in_default g c =
     let was : c.next.result ≡ Ok None = c.in_ok-x.was ∙ ap Ok c.in_default.is in
     let at-t : NextRead t rs.at rs.count n.at n.count (Ok None) = subst (λ t. NextRead t rs.at rs.count n.at n.count (Ok None)) c.loop-x.invariant.0 (subst (NextRead rs.text.now rs.at rs.count n.at n.count) was c.next.ensures.cases) in
     let step =
-    text_offered g.W.Objective g.R.Matroid p t c.args.text.now _ _ c.loop-x.self c.new-records.ensures.text (ap Ok (c.count.ensures ∙ at-t.2)) c.if-text-gt65536.false
+    text_offered g.W.Objective g.R.Matroid p t c.args.text.now _ _ c.loop-x.self c.new-records.ensures.text (ap Ok (c.count.ensures ∙ at-t.2)) c.if-text-gt-LONGEST_TEXT.false
     (done_ended g.W.Objective g.R.Matroid p t rs.at rs.count c.loop-x.self c.loop-x.invariant.1 at-t.0) in
     record { step = step; carries = λ h k. met_text g.W.Objective g.R.Matroid h p c.args.text.now _ _ step k }
 
@@ -84,13 +84,13 @@ returns-in_err-take_record g c =
     let fault : c.from_residual-in_err-take_record.result ≡ Err (Record (ShiftFull (rs.count + 1) rs.at)) =
     out.1 ∙ ap Err out.2 ∙ ap (λ f. Err (Record f)) h.1 ∙ ap₂ (λ n at. Err (Record (ShiftFull n at))) (c.count-in-loop-x.ensures ∙ here.1) c.start-start.ensures in
     let step =
-    text_offered g.W.Objective g.R.Matroid p t c.args.text.now _ _ c.take_record.new.self c.new-records.ensures.text fault c.if-text-gt65536.false
+    text_offered g.W.Objective g.R.Matroid p t c.args.text.now _ _ c.take_record.new.self c.new-records.ensures.text fault c.if-text-gt-LONGEST_TEXT.false
     (subst (Done g.W.Objective g.R.Matroid p t (Err (Record (ShiftFull (rs.count + 1) rs.at)))) (sym h.2)
     (done_full g.W.Objective g.R.Matroid p t rs.at rs.count c.loop-x.self c.loop-x.invariant.1 c.in-Some.x n.at here.0 h.0)) in
     record { step = step; carries = λ h k. met_text g.W.Objective g.R.Matroid h p c.args.text.now _ _ step k }
 
-pub returns-then-text-gt65536-clause-carries : goal.returns-then-text-gt65536-clause-carries
-returns-then-text-gt65536-clause-carries g c =
+pub returns-then-text-gt-LONGEST_TEXT-clause-carries : goal.returns-then-text-gt-LONGEST_TEXT-clause-carries
+returns-then-text-gt-LONGEST_TEXT-clause-carries g c =
     let p = c.args.self.now in
     let step : TextOffered g.W.Objective g.R.Matroid p c.args.text.now (Err LongText) p = search rules in
     λ h k. met_text g.W.Objective g.R.Matroid h p c.args.text.now _ _ step k

@@ -1,4 +1,4 @@
-use Rattle.std.proofs.Common.{◌≡◌, ℕ, [], ◌∷◌, ◌++◌, set, sym, refl, subst, arith, rules}
+use Rattle.std.proofs.Common.{◌≡◌, ℕ, ◌⊎◌, [], ◌∷◌, ◌++◌, set, sym, refl, ap, subst, inl, inr, arith, rules}
 use Rattle.std.proofs.lemmas.List.{length-map}
 use Rattle.theory.specs.Replay.{State}
 use Rattle.frames.specs.declared.frame.Frame.{Frame}
@@ -44,20 +44,18 @@ returns-in-Swapped-clause-after g c =
     let fit = fitting g.W.Objective g.R.Matroid p c.args.arrival.frame o is in
     advance_accepted g.W.Objective g.R.Matroid p c.swap.new.self c.args.arrival.frame o gain (set (held p.table) c.in-Swapped.place (c.args.arrival.frame, gain)) _ is fit.0 refl (search rules) c.swap.ensures
 
--- an outcome that is neither of these leaves what is kept
-settled_passed : (st : State Frame) (x : Frame) (o : Outcome) → ((p g : ℕ) → o ≡ Kept p g → ⊥) → ((p g : ℕ) (l : Frame) → o ≡ Swapped p g l → ⊥) → settled st x o ≡ st
-settled_passed st x Empty h k = refl
-settled_passed st x (Kept p g) h k = absurd (h p g refl)
-settled_passed st x (Swapped p g l) h k = absurd (k p g l refl)
-settled_passed st x (Light p g l) h k = refl
-settled_passed st x (Barred g) h k = refl
+-- the other outcomes leave what is kept
+settled_passed : (st : State Frame) (x : Frame) (o : Outcome) → (o ≡ Empty) ⊎ (((p : ℕ) × (g : ℕ) × (l : ℕ) × (o ≡ Light p g l)) ⊎ ((g : ℕ) × (o ≡ Barred g))) → settled st x o ≡ st
+settled_passed st x o (inl e) = ap (settled st x) e
+settled_passed st x o (inr (inl w)) = ap (settled st x) w.3
+settled_passed st x o (inr (inr w)) = ap (settled st x) w.1
 
-pub returns-in_default : goal.returns-in_default
-returns-in_default g c =
+pub returns-in-Empty : goal.returns-in-Empty
+returns-in-Empty g c =
     let p = c.args.self.now in
     let o = c.weigh-outcome.result in
     record {
       outcome = c.weigh-outcome.ensures;
       after = advance_passed g.W.Objective g.R.Matroid p _ c.args.arrival.frame o c.weigh-outcome.ensures
-          (settled_passed (begun p) c.args.arrival.frame o c.in_default.not-Kept c.in_default.not-Swapped) (search rules);
+          (settled_passed (begun p) c.args.arrival.frame o c.in-Empty.is) (search rules);
     }
