@@ -74,7 +74,7 @@ impl<O: Objective, M: Matroid> Picker<O, M> {
 
     pub fn offer(&mut self, frame: &Frame) -> Result<Outcome, Refusal> {
         if frame.lane > LAST_LANE || frame.side > LAST_SIDE {
-            return Err(Refusal::Over);
+            return Err(Refusal::TooHigh);
         }
         if self.seen == SHIFT {
             return Err(Refusal::ShiftFull);

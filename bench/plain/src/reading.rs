@@ -43,7 +43,7 @@ impl<'a> Lines<'a> {
         let (value, at) = self.value(key, longest)?;
         let number = decimal(value).ok_or(self.fault(Refusal::BadForm, at))?;
         if number > u64::from(highest) {
-            return Err(self.fault(Refusal::Over, at));
+            return Err(self.fault(Refusal::TooHigh, at));
         }
         Ok(number as u32)
     }

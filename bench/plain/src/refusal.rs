@@ -8,7 +8,7 @@ pub enum Refusal {
     ShortSheet = 4,
     WrongKey = 5,
     BadForm = 6,
-    Over = 7,
+    TooHigh = 7,
     Cut = 8,
     LongText = 9,
     Miscount = 10,

@@ -21,7 +21,7 @@ pub fn of_length<const N: usize>(numbers: &[u32]) -> Result<&[u32; N], Refused> 
 /// The first number above the highest value is refused.
 pub fn at_most(numbers: &[u32], highest: u32) -> Result<(), Refused> {
     match numbers.iter().position(|&n| n > highest) {
-        Some(index) => Err(refused(Refusal::Over, index)),
+        Some(index) => Err(refused(Refusal::TooHigh, index)),
         None => Ok(()),
     }
 }

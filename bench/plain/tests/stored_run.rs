@@ -56,5 +56,5 @@ fn full_shift() {
         byte: 0,
     };
     assert_eq!(picker.offer_text(text), Err(full));
-    assert_eq!(picker.offer(&frame((1, 1, 64))), Err(Refusal::Over));
+    assert_eq!(picker.offer(&frame((1, 1, 64))), Err(Refusal::TooHigh));
 }

@@ -1,5 +1,7 @@
 -- What a worked case says, and when it holds. Assumes nothing.
 use Rattle.std.specs.Prelude.{◌≡◌, ℕ, ◌-◌, Bool, true, List, [], ◌∷◌, ◌++◌, map, length, replicate, Some, None, Ok, Err, Result}
+use Rattle.theory.specs.Bag.{Drawn}
+use Rattle.theory.specs.Replay.{frames, replay}
 use Rattle.frames.specs.declared.frame.Frame.{Frame}
 use Rattle.frames.specs.declared.refusal.Refusal.{Refusal}
 use Rattle.frames.specs.Refusals.{number_of}
@@ -69,6 +71,8 @@ answers h (c ∷ cs) = answer_after worth admits places h sheet c ∷ answers (h
 pub data Case : Type 0 where
   -- frames offered to the program's picker, and their outcomes
   offered : List Frame → List Outcome → Case
+  -- frames offered to the program's picker, some of their places, and what the kept frames and those there are worth
+  outdone : List Frame → List ℕ → ℕ → ℕ → Case
   -- a text offered to the program's picker, its frames, and the digest that is printed then
   printed : List ℕ → List Frame → List ℕ → Case
   -- a size
@@ -92,6 +96,9 @@ pub data Case : Type 0 where
 -- what a case says, in the words of the contracts; where it has settings, they are accepted
 abbrev pub Holds : Case → Type 0
 Holds (offered xs os) = answers [] (map offering xs) ≡ map (λ o. Offered (Ok o)) os
+Holds (outdone xs ps v w) =
+    (worth (frames (replay worth admits places xs).kept) ≡ v)
+    × ((c : List Frame) × (Drawn xs ps c × (admits c ≡ true) × (worth c ≡ w)))
 Holds (printed text xs out) =
     (arrivals (reading text ∷ []) ≡ xs) × (answers [] (reading text ∷ []) ≡ Texted (Ok (length xs)) ∷ [])
     × (run_on worth admits places [] (reading text ∷ printing ∷ []) sheet None ≡ (over out sheet, Some (Printed (Ok (length out)))))

@@ -1,9 +1,15 @@
 -- The worked cases of the product. Assumes nothing.
 use Rattle.std.specs.Prelude.{ℕ, true, false, List, [], ◌∷◌, ◌++◌, replicate, Ok, Err, codes}
 use Rattle.std.specs.List.{AllByRecursion}
+use Rattle.frames.specs.declared.frame.Frame.{Frame}
 use Rattle.exchange.specs.declared.outcome.Outcome.TheVariants.{Swapped, Light}
-use Rattle.cases.specs.Case.{Case, Holds, offered, printed, size, marked, stepped, joined, boxed, weighed, look, look_at_end}
-use Rattle.cases.specs.Five.{records_of_five, frames_of_five, outcomes_of_five, digest_of_five}
+use Rattle.cases.specs.Case.{Case, Holds, offered, outdone, printed, size, marked, stepped, joined, boxed, weighed, look, look_at_end}
+use Rattle.cases.specs.Five.{shot, records_of_five, frames_of_five, outcomes_of_five, digest_of_five}
+
+-- four frames of one lane, whose gains are 1, 2, 4 and 7: the last is light, though it alone is worth more than three times
+-- what is kept
+abbrev pub rising : List Frame
+rising = shot 1 0x1 0 ∷ shot 2 0x2 0 ∷ shot 3 0x8 0 ∷ shot 4 0x4b 0 ∷ []
 
 -- all 64 marks
 abbrev pub all : ℕ
@@ -19,6 +25,7 @@ under_one = 64 ∷ 64 ∷ replicate 94 255
 abbrev pub table : List Case
 table =
     offered frames_of_five outcomes_of_five
+    ∷ outdone rising (3 ∷ []) 4 14
     ∷ printed records_of_five frames_of_five digest_of_five
     ∷ size 0 (Err 1)
     ∷ size 49 (Err 1)

@@ -40,8 +40,8 @@ fn wrong_keys() -> [Row; 7] {
     ]
 }
 
-// The value's start.
-fn bad_forms() -> [Row; 7] {
+// The value's start. The last value is too long for a tail, so that its line feed is not reached.
+fn bad_forms() -> [Row; 8] {
     [
         behind(1, 0, b"frame=01\n", 6, 72),
         behind(2, 8, b"marks=000000000000000A\n", 6, 80),
@@ -50,6 +50,7 @@ fn bad_forms() -> [Row; 7] {
         behind(5, 45, b"tail=\n", 6, 116),
         behind(6, 52, b"head=1 \n", 6, 123),
         behind(7, 59, b"side=00\n", 6, 130),
+        behind(5, 45, b"tail=0255\n", 6, 116),
     ]
 }
 

@@ -8,6 +8,7 @@ use objectives::objective::Objective;
 use picker::picker::Picker;
 use runs::call::{Answer, Call};
 use runs::run::carry_out;
+use spots::fault::Fault;
 use std::process::Abort;
 use std::test::*;
 
@@ -37,7 +38,7 @@ pub(crate) fn opened() -> Result<Picker<Coverage, PartitionMatroid>, Fail> {
     ))
 }
 
-// The first n bytes, as the program has them: no crate can depend on a program.
+// The first n bytes.
 pub(crate) fn front(s: &[u8], n: usize) -> &[u8] {
     &s[..n.min(s.len())]
 }
@@ -49,12 +50,15 @@ pub(crate) fn seen_of<W: Objective, R: Matroid>(picker: &Picker<W, R>) -> Result
     Ok(sheet)
 }
 
-// Whether a call with that answer leaves the picker as it was: a look-up, the counts, a print-out, a declined offer.
+// Whether a call with that answer leaves the picker as it was: a look-up, the counts, a print-out, a declined offer, and a
+// text that was refused whole or stopped at its first record.
 fn changes_nothing(answer: &Answer) -> bool {
-    matches!(
-        answer,
-        Answer::Offered(Err(_)) | Answer::Looked(_) | Answer::Counted(_) | Answer::Printed(_)
-    )
+    match answer {
+        Answer::Offered(Err(_)) | Answer::Looked(_) | Answer::Counted(_) | Answer::Printed(_) =>
+            true,
+        Answer::Texted(Err(fault)) => fault.spot().record <= 1,
+        Answer::Offered(Ok(_)) | Answer::Texted(Ok(_)) | Answer::Cleared => false,
+    }
 }
 
 // Makes the calls in turn, each with the answer that it should have.

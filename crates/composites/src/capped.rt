@@ -29,7 +29,7 @@ impl<W: Objective> Capped<W> {
         }
     }
 
-    // Another cap, as if newly made.
+    // Another cap, as if newly made. In place, since what is below stays.
     pub fn set(&mut self, cap: u32)
         ensures cap { (self.new.cap ≡ cap) × (self.new.room ≡ cap) }
         ensures below { Reset W.Objective.value W.Objective.residual self.old.below self.new.below }

@@ -1,21 +1,15 @@
 -- What it means that a table of steps is not refused. Assumes nothing.
-use Rattle.std.proofs.Common.{◌≡◌, ℕ, zero, suc, ◌+◌, ◌*◌, ◌%◌, ◌<◌, ◌≤◌, Bool, true, false, cond, ◌||◌, eqb, leb, ◌⊎◌, List, [], ◌∷◌, length, get_or, drop, Some, None, Option, sym, refl, ap, ◌∙◌, ⊎_elim, arith}
+use Rattle.std.proofs.Common.{◌≡◌, ℕ, zero, suc, ◌+◌, ◌*◌, ◌%◌, ◌<◌, ◌≤◌, cond, ◌||◌, eqb, leb, ◌⊎◌, List, [], ◌∷◌, length, get_or, drop, Some, None, Option, sym, ap, ◌∙◌, ⊎_elim, arith}
 use Rattle.std.proofs.lemmas.List.{at_drop_more, at_drop_all}
 use Rattle.std.proofs.lemmas.Bool.{or_cases, or_left, or_right, or_from, leb-true, le-leb, lt-leb, eqb-true, eq-eqb, ne_eqb, cond-true, cond-false}
 use Rattle.frames.specs.declared.refusal.Refusal.{Refusal}
-use Rattle.frames.specs.declared.refusal.Refusal.TheVariants.{Over, Miscount, Rising}
+use Rattle.frames.specs.declared.refusal.Refusal.TheVariants.{Over, Rising}
 use Rattle.frames.specs.declared.setting.SettingFault.{SettingFault}
-use Rattle.frames.specs.Settings.{count_fault}
-use Rattle.frames.proofs.Settings.{miscounted}
-use Rattle.concave.specs.Steps.{first_wrong, steps_fault}
+use Rattle.frames.proofs.Settings.{passed}
+use Rattle.concave.specs.Steps.{first_wrong}
 
 abbrev wrong : Refusal → ℕ → Option SettingFault
 wrong r i = Some (record { refusal = r; index = i })
-
--- a test that fails leads to a fault
-passed : (b : Bool) (o : Option SettingFault) (f : SettingFault) → cond b o (Some f) ≡ None → (b ≡ true) × (o ≡ None)
-passed true o f e = (refl, e)
-passed false o f e = absurd (let z : ◌≡◌ {A = ℕ} 0 1 = cc in omega arith)
 
 module _ (highest : ℕ) where
   -- the first step is neither too high nor above the one before it
@@ -38,16 +32,6 @@ module _ (highest : ℕ) where
   -- of steps that are not refused none is too high, and in no lane do they rise
   pub steps_accepted : (ns : List ℕ) → first_wrong highest 0 0 ns ≡ None → ((i : ℕ) → get_or ns i 0 ≤ highest) × ((l j : ℕ) → j < 7 → get_or ns (8 * l + j + 1) 0 ≤ get_or ns (8 * l + j) 0)
   steps_accepted ns e = (all_low 0 0 ns e, λ l j k. let same : suc (8 * l + j) ≡ 8 * l + j + 1 = omega arith in omega (arith, ap (λ i. get_or ns i 0) same, all_falling 0 0 ns e (suc (8 * l + j)) (λ h. omega arith)))
-
-  -- a list of another length
-  pub steps_miscounted : (count : ℕ) (ns : List ℕ) (e : SettingFault) → Some e ≡ count_fault count ns → Some e ≡ steps_fault count highest ns
-  unfolding steps_fault
-  steps_miscounted count ns e h = miscounted count ns e (first_wrong highest 0 0 ns) h
-
-  -- a list of the right length is looked through from its start
-  pub steps_counted : (count : ℕ) (ns : List ℕ) → length ns ≡ count → first_wrong highest 0 0 ns ≡ steps_fault count highest ns
-  unfolding steps_fault
-  steps_counted count ns h = sym (cond-true (eqb (length ns) count) (first_wrong highest 0 0 ns) (wrong Miscount 0) (eq-eqb (length ns) count h))
 
 -- the step at i follows p
 module _ (highest : ℕ) (ns : List ℕ) (i p : ℕ) (l : i < length ns) where

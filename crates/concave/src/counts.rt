@@ -4,8 +4,8 @@ ghost use Rattle.kinds.specs.Objectives.{concave, steps_of, steps_left};
 ghost use Rattle.kinds.proofs.Stepped.{steps_keep, left_keeps};
 ghost use Rattle.concave.specs.Steps.{steps_fault};
 
-use crate::setting::check_steps;
-use frames::frame::Frame;
+use crate::setting::{STEPS, STEPS_OF_LANE, check_steps};
+use frames::frame::{Frame, LANES};
 use frames::setting::SettingFault;
 use objectives::objective::Objective;
 
@@ -14,9 +14,9 @@ use objectives::objective::Objective;
 #[derive(Drop)]
 pub struct ConcaveCounts {
     // step n of lane l stands at 8 · l + n, as in the settings: rows of eight would be flattened again in each clause
-    steps: [u32; 512],
+    steps: [u32; STEPS],
     // how many frames of each lane were added since the last reset, 8 at most
-    counts: [u8; 64],
+    counts: [u8; LANES],
     ghost table: { length steps ≡ 512 },
     ghost lanes: { length counts ≡ 64 },
     ghost limit: { (i : ℕ) → slice_index steps i ≤ 8388607 },
@@ -33,11 +33,11 @@ impl ConcaveCounts {
         check_steps(steps)?;
         Ok(ConcaveCounts {
             steps: steps.try_into().unwrap(),
-            counts: [0; 64],
+            counts: [0; LANES],
         })
     }
 
-    // Other steps, as if newly made. Steps that are refused leave all as it was.
+    // Other steps, as if newly made. Steps that are refused leave all as it was. Each kind's own: see `Objective`.
     pub fn set(&mut self, steps: &[u32]) -> Result<(), SettingFault>
         ensures fault { result_err result ≡ steps_fault 512 8388607 steps.now }
         ensures after { MatchResult result (λ _. (self.new.steps ≡ steps.now) × (self.new.counts ≡ replicate 64 0)) (λ _. self.new ≡ self.old) }
@@ -57,19 +57,21 @@ impl Objective for ConcaveCounts {
     fn gain(&self, x: &Frame) -> u32 {
         let lane = x.lane as usize;
         match self.counts.get(lane) {
-            Some(count) if *count < 8 => self.steps[8 * lane + *count as usize],
+            Some(count) if (*count as usize) < STEPS_OF_LANE => {
+                self.steps[STEPS_OF_LANE * lane + *count as usize]
+            }
             _ => 0,
         }
     }
 
     fn add(&mut self, x: &Frame) {
         let lane = x.lane as usize;
-        if lane < 64 {
-            self.counts[lane] = (self.counts[lane] + 1).min(8);
+        if lane < LANES {
+            self.counts[lane] = (self.counts[lane] + 1).min(STEPS_OF_LANE as u8);
         }
     }
 
     fn reset(&mut self) {
-        self.counts = [0; 64];
+        self.counts = [0; LANES];
     }
 }

@@ -1,12 +1,14 @@
 -- Frames contracted one after another, and the parts that close. Assumes nothing.
-use Rattle.std.proofs.Common.{◌≡◌, ℕ, Bool, true, false, cond, ◌&&◌, ◌||◌, eqb, List, [], ◌∷◌, ◌++◌, sym, refl, ap, ◌∙◌, ap₂}
+use Rattle.std.proofs.Common.{◌≡◌, ℕ, Bool, true, false, cond, ◌&&◌, ◌||◌, eqb, List, [], ◌∷◌, ◌++◌, sym, refl, ap, ◌∙◌, ap₂, if◌then◌else◌, ◌==◌}
+use mathlib.Core.Bool.{or-true}
+use Rattle.std.proofs.lemmas.Bool.Decides.{same_from_decides}
 use Rattle.std.proofs.lemmas.Bool.{eqb-true, eq-eqb, both_ways, true≢false}
 use Rattle.cycles.proofs.Parity.{differ, differ_self, differ_false, same_unless, differ_past, or_past, parity, some, parity_none, once, after, parity_after}
 
 -- each frame in turn has two ends, once the head of each before it has got the name of its tail
 abbrev pub forest : {A : Type 0} → (A → ℕ) → (A → ℕ) → List A → Bool
 forest t h [] = true
-forest t h (x ∷ s) = cond (eqb (t x) (h x)) false (forest (after t h x t) (after t h x h) s)
+forest t h (x ∷ s) = if t x == h x then false else forest (after t h x t) (after t h x h) s
 
 -- the chosen part touches each station an even number of times
 abbrev pub Even : {A : Type 0} → (A → ℕ) → (A → ℕ) → List Bool → List A → Type 0
@@ -19,13 +21,13 @@ pub record Cycle {A : Type 0} (t h : A → ℕ) (s : List A) : Type 0 where
 
 module _ {A : Type 0} (t h : A → ℕ) (x : A) where
   -- x touches its head once
-  pub pivot : eqb (t x) (h x) ≡ false → once t h (h x) x ≡ true
+  pub pivot : (t x == h x) ≡ false → once t h (h x) x ≡ true
   pivot e = ap₂ differ e (eq-eqb (h x) (h x) refl)
 
-  pub loop : eqb (t x) (h x) ≡ true → (c : ℕ) → once t h c x ≡ false
+  pub loop : (t x == h x) ≡ true → (c : ℕ) → once t h c x ≡ false
   loop e c = ap (λ w. differ (eqb w c) (eqb (h x) c)) (eqb-true (t x) (h x) e) ∙ differ_self (eqb (h x) c)
 
-  pub even-after : eqb (t x) (h x) ≡ false → (b : Bool) (m : List Bool) (s : List A) → Even t h (b ∷ m) (x ∷ s) → Even (after t h x t) (after t h x h) m s
+  pub even-after : (t x == h x) ≡ false → (b : Bool) (m : List Bool) (s : List A) → Even t h (b ∷ m) (x ∷ s) → Even (after t h x t) (after t h x h) m s
   even-after e b m s ev c =
       parity_after t h x c m s
       ∙ ap₂ (λ p q. differ p (q && once t h c x)) (sym (same_unless (b && once t h c x) (parity (once t h c) m s) (ev c))) (sym (same_unless (b && once t h (h x) x) (parity (once t h (h x)) m s) (ev (h x))))
@@ -48,15 +50,11 @@ module _ {A : Type 0} where
   cycle t h [] e = absurd (true≢false e)
   cycle t h (x ∷ s) e = go (eqb (t x) (h x)) refl e (λ k. cycle (after t h x t) (after t h x h) s k)
     where
-      go : (b : Bool) → eqb (t x) (h x) ≡ b → cond b false (forest (after t h x t) (after t h x h) s) ≡ false → (forest (after t h x t) (after t h x h) s ≡ false → Cycle (after t h x t) (after t h x h) s) → Cycle t h (x ∷ s)
+      go : (b : Bool) → (t x == h x) ≡ b → (if b then false else forest (after t h x t) (after t h x h) s) ≡ false → (forest (after t h x t) (after t h x h) s ≡ false → Cycle (after t h x t) (after t h x h) s) → Cycle t h (x ∷ s)
       go true d k ih = record { mask = true ∷ []; proper = refl; even = λ c. differ_false (once t h c x) ∙ loop t h x d c }
       go false d k ih =
           let got = ih k in
-          record { mask = parity (once t h (h x)) got.mask s ∷ got.mask; proper = ap (λ r. parity (once t h (h x)) got.mask s || r) got.proper ∙ yes_or (parity (once t h (h x)) got.mask s); even = even-before t h x got.mask s got.even }
-        where
-          yes_or : (p : Bool) → (p || true) ≡ true
-          yes_or true = refl
-          yes_or false = refl
+          record { mask = parity (once t h (h x)) got.mask s ∷ got.mask; proper = ap (λ r. parity (once t h (h x)) got.mask s || r) got.proper ∙ or-true (parity (once t h (h x)) got.mask s); even = even-before t h x got.mask s got.even }
 
   -- a forest has none
   pub no_cycle : (t h : A → ℕ) (s : List A) → forest t h s ≡ true → (m : List Bool) → Even t h m s → some m s ≡ false
@@ -64,7 +62,7 @@ module _ {A : Type 0} where
   no_cycle t h [] e (b ∷ m) ev = refl
   no_cycle t h (x ∷ s) e (b ∷ m) ev = go (eqb (t x) (h x)) refl e (λ k j. no_cycle (after t h x t) (after t h x h) s k m j)
     where
-      go : (d : Bool) → eqb (t x) (h x) ≡ d → cond d false (forest (after t h x t) (after t h x h) s) ≡ true → (forest (after t h x t) (after t h x h) s ≡ true → Even (after t h x t) (after t h x h) m s → some m s ≡ false) → (b || some m s) ≡ false
+      go : (d : Bool) → (t x == h x) ≡ d → (if d then false else forest (after t h x t) (after t h x h) s) ≡ true → (forest (after t h x t) (after t h x h) s ≡ true → Even (after t h x t) (after t h x h) m s → some m s ≡ false) → (b || some m s) ≡ false
       go true d k ih = absurd (true≢false (sym k))
       go false d k ih =
           let rest = ih k (even-after t h x d b m s ev) in
@@ -101,10 +99,5 @@ module _ {A : Type 0} where
   forest_swap t h x y s e = through t h (y ∷ x ∷ s) (x ∷ y ∷ s) (cycle_swap t h y x s) e
 
   pub forest_order : (t h : A → ℕ) (p : List A) (x y : A) (s : List A) → forest t h (p ++ (x ∷ y ∷ s)) ≡ forest t h (p ++ (y ∷ x ∷ s))
-  forest_order t h [] x y s = both (forest t h (x ∷ y ∷ s)) (forest t h (y ∷ x ∷ s)) (forest_swap t h x y s) (forest_swap t h y x s)
-    where
-      both : (p q : Bool) → (p ≡ true → q ≡ true) → (q ≡ true → p ≡ true) → p ≡ q
-      both true q f g = sym (f refl)
-      both false true f g = g refl
-      both false false f g = refl
+  forest_order t h [] x y s = same_from_decides (forest t h (x ∷ y ∷ s)) (forest t h (y ∷ x ∷ s)) (forest_swap t h x y s, forest_swap t h y x s) (λ e. e, λ e. e)
   forest_order t h (z ∷ p) x y s = ap (cond (eqb (t z) (h z)) false) (forest_order (after t h z t) (after t h z h) p x y s)

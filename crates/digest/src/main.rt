@@ -1,7 +1,9 @@
 #![tactic(auto)]
 
-ghost use Rattle.std.specs.Prelude.{◌≡◌, [], ◌∷◌, take, Some as SomeOf, MatchResult};
-ghost use Rattle.std.specs.Result.{result_ok};
+ghost use Rattle.std.specs.Prelude.{◌≡◌, ◌*◌, ◌≤◌, true, List, [], ◌∷◌, take, Some as SomeOf, MatchResult};
+ghost use Rattle.theory.specs.Bag.{Choice};
+ghost use Rattle.theory.specs.Replay.{frames};
+ghost use Rattle.frames.specs.declared.frame.Frame.{Frame as FrameOf};
 ghost use Rattle.kept.specs.Tables.{held};
 ghost use Rattle.kinds.specs.Matroids.{partition};
 ghost use Rattle.kinds.specs.Objectives.{coverage};
@@ -10,7 +12,6 @@ ghost use Rattle.picker.specs.Label.{Label};
 ghost use Rattle.runs.specs.Runs.{answer_after};
 ghost use Rattle.cases.specs.Program.{places, weights, caps};
 
-use anyhow::anyhow;
 use frames::refusal::Refusal;
 use kept::size::Size;
 use matroids::partition::PartitionMatroid;
@@ -21,7 +22,7 @@ use runs::ran::Ran;
 use runs::run::run;
 use std::io::{Read, Write};
 
-// Class i has the weight i + 1: written out, so that the proof computes that these are the settings of the worked case.
+// Class i has the weight i + 1. Written out: a loop that fills them takes an invariant and a lemma, so it is no plainer.
 const WEIGHTS: [u32; 64] = [
     1, 2, 3, 4, 5, 6, 7, 8, 9, 10, 11, 12, 13, 14, 15, 16, 17, 18, 19, 20, 21, 22, 23, 24, 25, 26,
     27, 28, 29, 30, 31, 32, 33, 34, 35, 36, 37, 38, 39, 40, 41, 42, 43, 44, 45, 46, 47, 48, 49, 50,
@@ -30,9 +31,12 @@ const WEIGHTS: [u32; 64] = [
 
 const CAPS: [u32; 64] = [1; 64];
 
-// A picker of size 2 after the text was offered, and what the offer answered. The settings are never refused.
+// A picker of size 2 after the text was offered, and what the offer answered. The settings are never refused. Clause
+// `quarter` is the promise's fourth sentence: four times the value of the kept frames is at least the value of every choice
+// of different places of the arrivals, at most two, that may stand together.
 fn shift(text: &[u8], sheet: &mut [u8]) -> Result<Ran<Coverage, PartitionMatroid>, Refusal>
     ensures ran { MatchResult result (λ ran. Label (coverage (λ x. x.marks) weights) (partition (λ x. x.lane) caps) places (arrivals (reading text.now ∷ [])) (held ran.picker.table) ran.picker.took × (ran.answer ≡ SomeOf (answer_after (coverage (λ x. x.marks) weights) (partition (λ x. x.lane) caps) places [] sheet.old (reading text.now)))) (λ _. ⊥) }
+    ensures quarter { MatchResult result (λ ran. (c : List FrameOf) → Choice (arrivals (reading text.now ∷ [])) places c → partition (λ x. x.lane) caps c ≡ true → coverage (λ x. x.marks) weights c ≤ 4 * coverage (λ x. x.marks) weights (frames (held ran.picker.table))) (λ _. ⊥) }
     ensures sheet { sheet.new ≡ sheet.old }
 {
     let size = Size::new(2)?;
@@ -41,29 +45,18 @@ fn shift(text: &[u8], sheet: &mut [u8]) -> Result<Ran<Coverage, PartitionMatroid
     Ok(run(size, objective, matroid, &[Call::Text(text)], sheet))
 }
 
-fn printed(length: Result<usize, Refusal>) -> anyhow::Result<usize>
-    ensures { result_ok result ≡ result_ok length }
-{
-    length.map_err(|_| anyhow!("the sheet is too short"))
-}
-
-// The first n bytes.
-fn front(sheet: &[u8], n: usize) -> &[u8]
-    ensures { result.now ≡ take n sheet.now }
-{
-    &sheet[..n.min(sheet.len())]
-}
-
 fn main(rt: HostRuntime) -> anyhow::Result<()> {
     let mut text = Vec::new(rt.alloc());
+    // one byte more than a text may have, so that a longer one is refused; a public constant for this one program would be
+    // longer
     rt.stdin().take(65_537).read_to_end(&mut text)?;
     let mut sheet = [0; 512];
-    let ran = shift(text.as_slice(), &mut sheet).map_err(|_| anyhow!("the settings are refused"))?;
+    let ran = shift(text.as_slice(), &mut sheet)?;
     if let Some(Answer::Texted(Err(fault))) = ran.answer {
-        let n = printed(print_fault(&fault, &mut sheet))?;
-        rt.stdout().write_all(front(&sheet, n))?;
+        let n = print_fault(&fault, &mut sheet)?;
+        rt.stdout().write_all(&sheet[..n])?;
     }
-    let n = printed(ran.picker.print(&mut sheet))?;
-    rt.stdout().write_all(front(&sheet, n))?;
+    let n = ran.picker.print(&mut sheet)?;
+    rt.stdout().write_all(&sheet[..n])?;
     Ok(())
 }

@@ -14,7 +14,8 @@ fn text_in(bytes: &[u8]) -> Option<&[u8]>
     rest.get(..u32::from_le_bytes(*length) as usize)
 }
 
-// The call of that kind that the bytes behind the kind begin with, if they do. A kind is a number of the byte format.
+// The call of that kind that the bytes behind the kind begin with, if they do. A kind is a number of the byte format: an
+// enum of kinds would be matched again at once, so it would be no plainer.
 fn read_kind(kind: u8, rest: &[u8]) -> Option<Request<'_>>
     ensures { Reads (kind ∷ rest.now) result }
 {

@@ -3,10 +3,10 @@ ghost use Rattle.theory.specs.Lightest.{LightestIs};
 ghost use Rattle.theory.specs.Replay.{frames, gains, may_take, has_room};
 ghost use Rattle.exchange.specs.Outcomes.{displaced};
 ghost use Rattle.exchange.specs.Search.{lighter_than};
-ghost use Rattle.kept.specs.Tables.{entries_of, held};
+ghost use Rattle.kept.specs.Tables.{held};
 
 use crate::outcome::Outcome;
-use crate::rows;
+use crate::rows::{self, ROW};
 use arrayvec::ArrayVec;
 use frames::frame::Frame;
 use kept::size::Size;
@@ -19,11 +19,11 @@ use matroids::matroid::Matroid;
 pub(crate) struct Bid<'a, R> {
     pub(crate) matroid: &'a R,
     pub(crate) table: &'a KeptTable,
-    // read by the clauses alone: the code reads it at the head of the row
+    // read by the clauses alone, which would else name the head of the row
     pub(crate) frame: Frame,
     pub(crate) gain: u32,
     // the frame, and the kept frames behind it
-    pub(crate) row: ArrayVec<Frame, 49>,
+    pub(crate) row: ArrayVec<Frame, ROW>,
     ghost lined: { row.items ≡ frame ∷ frames (held table.now) },
 }
 
@@ -40,7 +40,7 @@ impl<R: Matroid> Bid<'_, R> {
 
     // Whether the frame is independent with the kept ones but for the one at the place.
     fn may_take(&self, place: usize) -> bool
-        requires { place < length (entries_of self.now.table.now) }
+        requires { place < length self.now.table.now }
         ensures { result ≡ may_take (R.Matroid.admits self.now.matroid.now) (held self.now.table.now) self.now.frame place }
     {
         self.matroid.independent(
@@ -63,6 +63,7 @@ impl<R: Matroid> Bid<'_, R> {
     {
         let mut places = 0..self.table.len();
         let mut best = None;
+        // a rule of the project: this search is a `loop` that yields its value by `break`
         loop {
             let Some(p) = places.next() else {
                 break best;
@@ -75,7 +76,7 @@ impl<R: Matroid> Bid<'_, R> {
 
     // What becomes of the frame, which may take the place, and no lighter one.
     pub(crate) fn contest(&self, place: usize) -> Outcome
-        requires { place < length (entries_of self.now.table.now) }
+        requires { place < length self.now.table.now }
         ensures { result ≡ displaced (held self.now.table.now) self.now.gain (SomeOf place) }
     {
         let gain = self.gain;

@@ -86,9 +86,3 @@ pub record Ran (f : List Frame → ℕ) (adm : List Frame → Bool) (n : ℕ) (b
 abbrev pub Exported : Option ArgumentFault → (List Frame → ℕ) → (List Frame → Bool) → ℕ → List ℕ → List ℕ → ℕ → List ℕ → Type 0
 Exported (Some e) f adm n bytes before r after = (r ≡ refused_as e) × (after ≡ before)
 Exported None f adm n bytes before r after = Ran f adm n bytes before r after
-
--- what was opened with m, f and adm does as the settings n, g and alt say
-pub record Opens (m : ℕ) (f : List Frame → ℕ) (adm : List Frame → Bool) (n : ℕ) (g : List Frame → ℕ) (alt : List Frame → Bool) : Type 0 where
-  pub size : m ≡ n
-  pub worth : (s : List Frame) → f s ≡ g s
-  pub rule : adm ≡ alt

@@ -12,6 +12,7 @@ impl ArgumentFault {
     {
         self.fault.refusal.number() as u64
             + 256 * self.place as u64
+            // the upper 48 bits, in which `serving` tells the bytes of answers
             + 65_536 * (self.fault.index as u64 % 281_474_976_710_656)
     }
 }

@@ -1,6 +1,7 @@
 ghost use Rattle.std.specs.Prelude.{◌≡◌};
 ghost use Rattle.std.specs.Result.{IfOk, result_err};
-ghost use Rattle.exports.specs.Piles.{Opens, capped_facility, capped_facility_laminar_fault, concave_coverage, concave_graphic_fault, coverage_of, coverage_partition_fault, graphic_partition, partition_of, truncated_laminar};
+ghost use Rattle.exports.specs.Opening.{Opens};
+ghost use Rattle.exports.specs.Piles.{capped_facility, capped_facility_laminar_fault, concave_coverage, concave_graphic_fault, coverage_of, coverage_partition_fault, graphic_partition, partition_of, truncated_laminar};
 
 use crate::fault::ArgumentFault;
 use crate::settings::{Settings, argument, size_of};
@@ -10,12 +11,16 @@ use concave::counts::ConcaveCounts;
 use facility::location::FacilityLocation;
 use graphic::graphic::GraphicMatroid;
 use laminar::laminar::LaminarMatroid;
+use matroids::matroid::Matroid;
 use matroids::partition::PartitionMatroid;
 use objectives::coverage::Coverage;
+use objectives::objective::Objective;
 use operations::direct_sum::DirectSum;
 use operations::truncation::Truncation;
 
 pub(crate) type CappedFacility<'a> = Sum<Capped<Coverage>, FacilityLocation<'a>>;
+
+pub(crate) type TruncatedLaminar = Truncation<LaminarMatroid>;
 
 pub(crate) type ConcaveCoverage = Sum<ConcaveCounts, Coverage>;
 
@@ -27,7 +32,7 @@ pub(crate) fn coverage_partition(
     caps: &[u32],
 ) -> Result<Settings<Coverage, PartitionMatroid>, ArgumentFault>
     ensures fault { result_err result ≡ coverage_partition_fault size weights.now caps.now }
-    ensures opened { IfOk result (λ s. Opens s.size.n (coverage_of s.objective.weights) (partition_of s.matroid.caps) size (coverage_of weights.now) (partition_of caps.now)) }
+    ensures opened { IfOk result (λ s. Opens ⟦<Coverage as Objective>⟧ ⟦<PartitionMatroid as Matroid>⟧ s size (coverage_of weights.now) (partition_of caps.now)) }
 {
     Ok(Settings {
         size: size_of(size)?,
@@ -44,9 +49,9 @@ pub(crate) fn capped_facility_laminar<'a>(
     most: u32,
     caps: &[u32],
     parents: &[u32],
-) -> Result<Settings<CappedFacility<'a>, Truncation<LaminarMatroid>>, ArgumentFault>
+) -> Result<Settings<CappedFacility<'a>, TruncatedLaminar>, ArgumentFault>
     ensures fault { result_err result ≡ capped_facility_laminar_fault size weights.now most caps.now parents.now }
-    ensures opened { IfOk result (λ s. Opens s.size.n (capped_facility s.objective.first.below.weights s.objective.first.cap s.objective.second.table.now) (truncated_laminar s.matroid.limit s.matroid.below.caps s.matroid.below.parents) size (capped_facility weights.now cap table.now) (truncated_laminar most caps.now parents.now)) }
+    ensures opened { IfOk result (λ s. Opens ⟦<CappedFacility<'a> as Objective>⟧ ⟦<TruncatedLaminar as Matroid>⟧ s size (capped_facility weights.now cap table.now) (truncated_laminar most caps.now parents.now)) }
 {
     let size = size_of(size)?;
     let coverage = argument(2, Coverage::new(weights))?;
@@ -66,7 +71,7 @@ pub(crate) fn concave_graphic(
     caps: &[u32],
 ) -> Result<Settings<ConcaveCoverage, GraphicPartition>, ArgumentFault>
     ensures fault { result_err result ≡ concave_graphic_fault size steps.now weights.now caps.now }
-    ensures opened { IfOk result (λ s. Opens s.size.n (concave_coverage s.objective.first.steps s.objective.second.weights) (graphic_partition s.matroid.second.caps) size (concave_coverage steps.now weights.now) (graphic_partition caps.now)) }
+    ensures opened { IfOk result (λ s. Opens ⟦<ConcaveCoverage as Objective>⟧ ⟦<GraphicPartition as Matroid>⟧ s size (concave_coverage steps.now weights.now) (graphic_partition caps.now)) }
 {
     let size = size_of(size)?;
     let counts = argument(2, ConcaveCounts::new(steps))?;

@@ -4,7 +4,8 @@ ghost use Rattle.exports.specs.Piles.{Exported, capped_facility, capped_facility
 use crate::opened::{capped_facility_laminar, concave_graphic, coverage_partition};
 use crate::run::run;
 
-// Each answers the number that C is told.
+// Each answers the number that C is told. Clause `refused` follows from the other, and stands beside it so that a weaker
+// `Exported` would be refused.
 
 // Coverage over a partition matroid.
 pub fn fogetsu_coverage_partition(

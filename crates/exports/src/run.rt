@@ -1,6 +1,8 @@
-ghost use Rattle.std.specs.Prelude.{◌≡◌};
-ghost use Rattle.std.specs.Result.{MatchResult};
-ghost use Rattle.exports.specs.Piles.{Ran, refused_as};
+ghost use Rattle.std.specs.Prelude.{◌≡◌, ◌≢◌, ℕ, ◌%◌, Bool, List};
+ghost use Rattle.std.specs.Result.{IfOk, result_err};
+ghost use Rattle.frames.specs.declared.frame.Frame.{Frame as FrameOf};
+ghost use Rattle.exports.specs.Opening.{Opens};
+ghost use Rattle.exports.specs.Piles.{Exported};
 
 use crate::fault::ArgumentFault;
 use crate::number::run_number;
@@ -15,7 +17,8 @@ pub(crate) fn run<W: Objective + Drop, R: Matroid + Drop>(
     calls: &[u8],
     answers: &mut [u8],
 ) -> u64
-    ensures { MatchResult settings (λ s. Ran (W.Objective.value s.objective) (R.Matroid.admits s.matroid) s.size.n calls.now answers.old result answers.new) (λ e. (result ≡ refused_as e) × (answers.new ≡ answers.old)) }
+    ensures exported { (n : ℕ) (f : List FrameOf → ℕ) (adm : List FrameOf → Bool) → IfOk settings (λ s. Opens W.Objective R.Matroid s n f adm) → Exported (result_err settings) f adm n calls.now answers.old result answers.new }
+    ensures refused { result % 65536 ≢ 0 → answers.new ≡ answers.old }
 {
     match settings {
         Ok(s) => run_number(serve(s.size, s.objective, s.matroid, calls, answers)),

@@ -27,6 +27,7 @@ pub(crate) fn size_of(size: u32) -> Result<Size, ArgumentFault>
     ensures fault { result_err result ≡ argument 1 (size_fault size) }
     ensures made { IfOk result (λ s. s.n ≡ size) }
 {
+    // a lone number: users are told the index 0
     let made = Size::new(size as usize).map_err(|refusal| SettingFault { refusal, index: 0 });
     argument(1, made)
 }

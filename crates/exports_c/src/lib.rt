@@ -5,7 +5,7 @@ ghost use Rattle.exports.specs.Piles.{Exported, capped_facility, capped_facility
 
 use exports::piles;
 
-// C links by a function's own name, so each is passed on here, with its contract.
+// C links by a function's own name and is told a number, so each is passed on here, with its contract.
 
 // Coverage over a partition matroid.
 #[unsafe(no_mangle)]

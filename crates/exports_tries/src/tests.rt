@@ -3,7 +3,7 @@ use exports::piles::{
     fogetsu_capped_facility_laminar, fogetsu_concave_graphic, fogetsu_coverage_partition,
 };
 
-// Class 0 weighs 100, class 1 weighs 50.
+// Class 0 weighs 100, class 1 weighs 50. The tests of each crate have their own.
 fn weights() -> [u32; 64] {
     let mut weights = [0; 64];
     weights[..2].copy_from_slice(&[100, 50]);

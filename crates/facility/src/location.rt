@@ -28,7 +28,7 @@ impl<'a> FacilityLocation<'a> {
         }
     }
 
-    // Another table, as if newly made.
+    // Another table, as if newly made. It refuses nothing.
     pub fn set(&mut self, table: &'a [u16])
         ensures table { self.new.table.now ≡ table.now }
         ensures best { self.new.best ≡ replicate 64 0 }

@@ -1,52 +1,27 @@
 -- What it means that a list of settings is not refused. Assumes nothing.
-use Rattle.std.proofs.Common.{◌≡◌, ℕ, ◌+◌, ◌%◌, ◌<◌, ◌≤◌, cond, eqb, leb, List, [], ◌∷◌, length, get_or, drop, Some, None, Option, sym, ◌∙◌, ⊎_elim, arith}
+use Rattle.std.proofs.Common.{◌≡◌, ℕ, ◌+◌, ◌%◌, ◌<◌, ◌≤◌, Bool, true, false, cond, leb, List, [], ◌∷◌, length, get_or, drop, Some, None, Option, refl, ◌∙◌, arith}
 use Rattle.std.specs.List.{AllByRecursion}
 use Rattle.std.proofs.Math.Nat.{mod-eq_of_lt}
 use Rattle.std.proofs.lemmas.Grind.{same_number_lists}
 use Rattle.std.proofs.lemmas.List.{at_drop_more, at_drop_all}
-use Rattle.std.proofs.lemmas.Bool.{cases_Bool, leb-true, le-leb, lt-leb, eqb-true, eq-eqb, cond-true, cond-false}
-use Rattle.frames.specs.declared.refusal.Refusal.TheVariants.{Over, Miscount}
+use Rattle.std.proofs.lemmas.Bool.{leb-true, le-leb, lt-leb, cond-true, cond-false}
+use Rattle.frames.specs.declared.refusal.Refusal.TheVariants.{Over}
 use Rattle.frames.specs.declared.setting.SettingFault.{SettingFault}
-use Rattle.frames.specs.Settings.{first_over, count_fault, numbers_fault}
+use Rattle.frames.specs.Settings.{first_over}
 
 -- something is not nothing
 pub some_none : {X : Type 0} (x : X) → Some x ≡ None → ⊥
-some_none x e = let z : ◌≡◌ {A = ℕ} 0 1 = cc in omega arith
+some_none x e = cc
 
-over_none : (highest i : ℕ) (ns : List ℕ) → first_over highest i ns ≡ None → AllByRecursion (λ n. n ≤ highest) ns
+-- a test that fails leads to a fault
+pub passed : (b : Bool) (o : Option SettingFault) (f : SettingFault) → cond b o (Some f) ≡ None → (b ≡ true) × (o ≡ None)
+passed true o f e = (refl, e)
+passed false o f e = cc
+
+-- where no number is above the highest, each is at most the highest
+pub over_none : (highest i : ℕ) (ns : List ℕ) → first_over highest i ns ≡ None → AllByRecursion (λ n. n ≤ highest) ns
 over_none highest i [] e = tt
-over_none highest i (n ∷ ns) e =
-    ⊎_elim
-    (λ t. (leb-true n highest t, over_none highest (i + 1) ns (sym (cond-true (leb n highest) (first_over highest (i + 1) ns) (Some (record { refusal = Over; index = i })) t) ∙ e)))
-    (λ t. absurd (some_none (record { refusal = Over; index = i }) (sym (cond-false (leb n highest) (first_over highest (i + 1) ns) (Some (record { refusal = Over; index = i })) t) ∙ e)))
-    (cases_Bool (leb n highest))
-
--- a list that is not refused has as many numbers as it should, each at most the highest
-pub numbers_accepted : (count highest : ℕ) (ns : List ℕ) → numbers_fault count highest ns ≡ None → (length ns ≡ count) × AllByRecursion (λ n. n ≤ highest) ns
-unfolding numbers_fault
-numbers_accepted count highest ns e =
-    ⊎_elim
-    (λ t. (eqb-true (length ns) count t, over_none highest 0 ns (sym (cond-true (eqb (length ns) count) (first_over highest 0 ns) (Some (record { refusal = Miscount; index = 0 })) t) ∙ e)))
-    (λ t. absurd (some_none (record { refusal = Miscount; index = 0 }) (sym (cond-false (eqb (length ns) count) (first_over highest 0 ns) (Some (record { refusal = Miscount; index = 0 })) t) ∙ e)))
-    (cases_Bool (eqb (length ns) count))
-
--- a list of another length is refused for that, whatever else is asked of it
-pub miscounted : (count : ℕ) (ns : List ℕ) (e : SettingFault) (other : Option SettingFault) → Some e ≡ count_fault count ns
-    → Some e ≡ cond (eqb (length ns) count) other (Some (record { refusal = Miscount; index = 0 }))
-miscounted count ns e other h =
-    ⊎_elim
-    (λ t. absurd (some_none e (h ∙ cond-true (eqb (length ns) count) None (Some (record { refusal = Miscount; index = 0 })) t)))
-    (λ t. h ∙ cond-false (eqb (length ns) count) None (Some (record { refusal = Miscount; index = 0 })) t ∙ sym (cond-false (eqb (length ns) count) other (Some (record { refusal = Miscount; index = 0 })) t))
-    (cases_Bool (eqb (length ns) count))
-
-pub numbers_miscounted : (count highest : ℕ) (ns : List ℕ) (e : SettingFault) → Some e ≡ count_fault count ns → Some e ≡ numbers_fault count highest ns
-unfolding numbers_fault
-numbers_miscounted count highest ns e h = miscounted count ns e (first_over highest 0 ns) h
-
--- a list of the right length is looked through from its start
-pub numbers_counted : (count highest : ℕ) (ns : List ℕ) → length ns ≡ count → first_over highest 0 ns ≡ numbers_fault count highest ns
-unfolding numbers_fault
-numbers_counted count highest ns h = sym (cond-true (eqb (length ns) count) (first_over highest 0 ns) (Some (record { refusal = Miscount; index = 0 })) (eq-eqb (length ns) count h))
+over_none highest i (n ∷ ns) e = let low = passed (leb n highest) _ _ e in (leb-true n highest low.0, over_none highest (i + 1) ns low.1)
 
 module _ (highest : ℕ) (ns : List ℕ) (i : ℕ) (d : ℕ) where
   -- the number at i is not above the highest

@@ -1,5 +1,6 @@
 -- Which lists of settings are refused, and why. Assumes nothing.
 use Rattle.std.specs.Prelude.{ℕ, ◌+◌, if◌then◌else◌, List, [], ◌∷◌, length, Some, None, Option, ◌==◌, nat_le}
+use Rattle.std.specs.Option.{option_or}
 use Rattle.frames.specs.declared.refusal.Refusal.TheVariants.{Over, Miscount}
 use Rattle.frames.specs.declared.setting.SettingFault.{SettingFault}
 
@@ -14,4 +15,4 @@ count_fault count ns = if length ns == count then None else Some (record { refus
 
 -- what is wrong with a list that should have `count` numbers, each at most the highest: its length comes first
 unfoldable pub numbers_fault : ℕ → ℕ → List ℕ → Option SettingFault
-numbers_fault count highest ns = if length ns == count then first_over highest 0 ns else Some (record { refusal = Miscount; index = 0 })
+numbers_fault count highest ns = option_or (count_fault count ns) (first_over highest 0 ns)

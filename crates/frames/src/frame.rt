@@ -1,3 +1,6 @@
+// The lanes of the line are numbered from 0: the highest is one below this.
+pub const LANES: usize = 64;
+
 // One frame of the camera: its number, the classes it shows, its row in the table of likenesses, its lane, the two
 // stations it joins, and its side of the line.
 #[derive(Clone, Copy, PartialEq, Eq, Debug, Default)]

@@ -3,24 +3,15 @@ use Rattle.std.specs.Prelude.{ℕ, List, map, slice_index, slice_index_or}
 use Rattle.theory.specs.Replay.{frames, gains}
 use Rattle.frames.specs.declared.frame.Frame.{Frame}
 use Rattle.frames.specs.declared.entry.Entry.{Entry}
-use Rattle.kept.specs.declared.table.KeptTable.{KeptTable}
 use Rattle.kept.specs.declared.table.TableFull.{TableFull}
-
--- the entries, by place
-abbrev pub entries_of : KeptTable → List Entry
-entries_of t = t.entries.items
 
 -- that no place is left
 abbrev pub table_full : TableFull
 table_full = record {}
 
--- each entry as a frame and its gain
-abbrev pub pairs : List Entry → List (Frame × ℕ)
-pairs es = map (λ e. (e.frame, e.gain)) es
-
 -- the kept frames with their gains, by place
-abbrev pub held : KeptTable → List (Frame × ℕ)
-held t = pairs (entries_of t)
+abbrev pub held : List Entry → List (Frame × ℕ)
+held es = map (λ e. (e.frame, e.gain)) es
 
 abbrev pub no_frame : Frame
 no_frame = record { number = 0; marks = 0; look = 0; lane = 0; tail = 0; head = 0; side = 0 }

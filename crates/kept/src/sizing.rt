@@ -1,7 +1,8 @@
 ghost use Rattle.std.specs.Prelude.{◌≡◌, ◌≤◌};
 ghost use Rattle.kept.specs.Sizes.{size_answer, number_in};
 
-use crate::size::{MOST_KEPT, Size};
+use crate::size::Size;
+use frames::entry::MOST_KEPT;
 use frames::refusal::Refusal;
 
 impl Size {

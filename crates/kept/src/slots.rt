@@ -1,6 +1,6 @@
-ghost use Rattle.std.specs.Prelude.{◌≡◌, ℕ, ◌<◌, List, [], ◌∷◌, ◌++◌, length, Ok as OkOf, Err as ErrOf, if◌then◌else◌, nat_lt, slice_set};
+ghost use Rattle.std.specs.Prelude.{◌≡◌, ◌≤◌, [], ◌∷◌, ◌++◌, length, Ok as OkOf, Err as ErrOf, if◌then◌else◌, nat_lt, slice_set};
 ghost use Rattle.std.specs.List.{slice_get};
-ghost use Rattle.kept.specs.Tables.{entries_of, held, gain_at, table_full};
+ghost use Rattle.kept.specs.Tables.{held, gain_at, table_full};
 
 use crate::table::{KeptTable, TableFull};
 use arrayvec::ArrayVec;
@@ -8,7 +8,7 @@ use frames::entry::Entry;
 
 impl KeptTable {
     pub fn new() -> KeptTable
-        ensures { entries_of result ≡ [] }
+        ensures { result ≡ [] }
     {
         KeptTable {
             entries: ArrayVec::new(),
@@ -17,36 +17,38 @@ impl KeptTable {
 
     // How many are kept.
     pub fn len(&self) -> usize
-        ensures { result ≡ length (entries_of self.now) }
+        ensures value { result ≡ length self.now }
+        ensures fits { result ≤ 48 }
     {
         self.entries.len()
     }
 
     // The entry at a place, if one is kept there.
     pub fn get(&self, place: usize) -> Option<Entry>
-        ensures { result ≡ slice_get (entries_of self.now) place }
+        ensures { result ≡ slice_get self.now place }
     {
         self.entries().get(place).copied()
     }
 
     // All entries, by place.
     pub fn entries(&self) -> &[Entry]
-        ensures { result.now ≡ entries_of self.now }
+        ensures value { result.now ≡ self.now }
+        ensures fits { length result.now ≤ 48 }
     {
         self.entries.as_slice()
     }
 
     // One entry more in the next place; nothing changes where 48 are kept.
     pub fn push(&mut self, e: Entry) -> Result<(), TableFull>
-        ensures room { result ≡ (if nat_lt (length (entries_of self.old)) 48 then OkOf tt else ErrOf table_full) }
-        ensures after { entries_of self.new ≡ (if nat_lt (length (entries_of self.old)) 48 then entries_of self.old ++ e ∷ [] else entries_of self.old) }
+        ensures room { result ≡ (if nat_lt (length self.old) 48 then OkOf tt else ErrOf table_full) }
+        ensures after { self.new ≡ (if nat_lt (length self.old) 48 then self.old ++ e ∷ [] else self.old) }
     {
         self.entries.try_push(e).map_err(|_| TableFull)
     }
 
     // Writes an entry over the one at a place; nothing changes where none is kept there.
     pub fn replace(&mut self, place: usize, e: Entry)
-        ensures { entries_of self.new ≡ slice_set (entries_of self.old) place e }
+        ensures { self.new ≡ slice_set self.old place e }
     {
         if let Some(entry) = self.entries.get_mut(place) {
             *entry = e;
@@ -54,7 +56,7 @@ impl KeptTable {
     }
 
     pub fn clear(&mut self)
-        ensures { entries_of self.new ≡ [] }
+        ensures { self.new ≡ [] }
     {
         self.entries.clear();
     }

@@ -1,15 +1,22 @@
-ghost use Rattle.std.specs.Prelude.{◌≡◌, ◌≤◌};
-ghost use Rattle.arrayvec.specs.ArrayVec.{array_vec_len};
-
-use crate::size::MOST_KEPT;
 use arrayvec::ArrayVec;
-use frames::entry::Entry;
+use frames::entry::{Entry, MOST_KEPT};
+use std::marker::Model;
 
-// The kept frames with their gains, by place.
+// The kept frames with their gains, by place. A contract sees the table as the list of its entries.
 #[derive(Drop)]
 pub struct KeptTable {
     pub(crate) entries: ArrayVec<Entry, MOST_KEPT>,
-    ghost few: { array_vec_len entries ≤ 48 },
+}
+
+impl Model for KeptTable {
+    ghost use Rattle.std.specs.Prelude.{List, length, ◌≤◌};
+    ghost use Rattle.frames.specs.declared.entry.Entry.{Entry as EntryOf};
+
+    ghost Value = { List EntryOf };
+
+    ghost view = { λ t. t.entries.items };
+
+    ghost invariant = { λ t. length t.entries.items ≤ 48 };
 }
 
 // There is no place left in the table.

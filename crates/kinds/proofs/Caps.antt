@@ -1,5 +1,5 @@
 -- Caps on boxes, one after another. Assumes nothing.
-use Rattle.std.proofs.Common.{◌≡◌, ℕ, zero, suc, ◌+◌, ◌<◌, ◌≤◌, Bool, true, false, cond, not, ◌&&◌, leb, ◌⊎◌, List, [], ◌∷◌, count_by, filter, sym, refl, ap, ◌∙◌, subst, ap₂, inl, inr, ⊎_elim, arith}
+use Rattle.std.proofs.Common.{◌≡◌, ℕ, zero, suc, ◌+◌, ◌<◌, ◌≤◌, Bool, true, false, cond, not, ◌&&◌, leb, ◌⊎◌, List, [], ◌∷◌, count_by, filter, sym, refl, ap, ◌∙◌, subst, ap₂, inl, inr, ⊎_elim, arith, nat_le}
 use mathlib.Core.Bool.{and-true, and_assoc}
 use Rattle.std.specs.List.{AllByRecursion}
 use Rattle.std.proofs.ByRecursion.{kept_by_passes}
@@ -26,7 +26,7 @@ splits_and p {adm} {other} h k s = ap₂ ◌&&◌ (h s) (k s) ∙ cross (adm (fi
     cross false b c d = refl
 
 -- a cap holds of a sum if it holds of both parts and one of them is 0, or the cap is
-sum-leb : (a b c : ℕ) → (a ≡ 0) ⊎ ((b ≡ 0) ⊎ (c ≡ 0)) → leb (a + b) c ≡ (leb a c && leb b c)
+sum-leb : (a b c : ℕ) → (a ≡ 0) ⊎ ((b ≡ 0) ⊎ (c ≡ 0)) → nat_le (a + b) c ≡ (nat_le a c && nat_le b c)
 sum-leb a b c h = grind arith
 
 -- a frame of s that passes r; P holds of all of s

@@ -1,23 +1,23 @@
 -- Coverage once some classes are covered. Assumes nothing.
-use Rattle.std.proofs.Common.{◌≡◌, ℕ, zero, suc, ◌+◌, ◌-◌, ◌/◌, ◌%◌, ◌^◌, ◌<◌, ◌≤◌, min, Bool, true, false, cond, not, ◌&&◌, ◌||◌, eqb, List, [], ◌∷◌, length, get_or, sum_by, sym, refl, ap, ◌∙◌, ⊎_elim, pow-suc, div-one, one-add, arith}
-use native.Mathlib.Nat.{zero-div}
-use lib.Bits.{bit_and, bit_or, and_step}
-use Rattle.std.specs.List.{range_with_len}
-use Rattle.std.proofs.lemmas.Nat.{and_shr, shr-shr}
+use Rattle.std.proofs.Common.{◌≡◌, ℕ, ◌+◌, ◌-◌, ◌^◌, ◌<◌, ◌≤◌, min, Bool, true, false, cond, not, ◌&&◌, ◌||◌, eqb, List, [], ◌∷◌, length, get_or, sum_by, sym, refl, ap, ◌∙◌, ⊎_elim, arith, if◌then◌else◌, ◌==◌, slice_index}
+use lib.Bits.{bit_and, bit_or}
+use Rattle.std.specs.Int.{w64, bit_at, bit_not}
+use Rattle.std.specs.List.{list_any, range_with_len}
+use Rattle.std.proofs.lemmas.Nat.Bits.{bit_at-zero, bit_at_and, bit_at_not}
 use Rattle.std.proofs.lemmas.List.FromFn.{length-map-range_with_len, get_or-map-range_with_len}
 use Rattle.std.proofs.ByRecursion.{All-from_get_or}
 use Rattle.std.proofs.lemmas.List.{get_or_past, ext_get_or}
 use Rattle.std.proofs.lemmas.Bool.{cases_lt}
 use Rattle.theory.specs.Laws.{Lawful}
-use Rattle.kinds.specs.Objectives.{some, shows, of_class, coverage, uncovered}
+use Rattle.kinds.specs.Objectives.{shows, of_class, coverage, uncovered}
 use Rattle.kinds.proofs.Gains.{shows_or, adds_below}
 use Rattle.kinds.proofs.Objectives.{coverage_lawful, coverage_small, below_more}
 
-cond_same : (b : Bool) (n : ℕ) → cond b n n ≡ n
+cond_same : (b : Bool) (n : ℕ) → (if b then n else n) ≡ n
 cond_same true n = refl
 cond_same false n = refl
 
-cond_le_else : (b : Bool) (n m : ℕ) → n ≤ m → cond b 0 n ≤ m
+cond_le_else : (b : Bool) (n m : ℕ) → n ≤ m → (if b then 0 else n) ≤ m
 cond_le_else true n m h = omega arith
 cond_le_else false n m h = h
 
@@ -26,30 +26,30 @@ unfolding uncovered
 length-uncovered covered weights = length-map-range_with_len (λ i. cond (shows covered i) 0 (get_or weights i 0)) 0 (length weights)
 
 module _ (covered : ℕ) (weights : List ℕ) (i : ℕ) where
-  get_or_near : i < length weights → get_or (uncovered covered weights) i 0 ≡ cond (shows covered i) 0 (get_or weights i 0)
+  get_or_near : i < length weights → slice_index (uncovered covered weights) i ≡ (if shows covered i then 0 else slice_index weights i)
   unfolding uncovered
   get_or_near l = get_or-map-range_with_len (λ k. cond (shows covered k) 0 (get_or weights k 0)) 0 (length weights) i i 0 l (omega arith)
 
-  get_or_beyond : length weights ≤ i → get_or (uncovered covered weights) i 0 ≡ cond (shows covered i) 0 (get_or weights i 0)
+  get_or_beyond : length weights ≤ i → slice_index (uncovered covered weights) i ≡ (if shows covered i then 0 else slice_index weights i)
   get_or_beyond l = get_or_past (uncovered covered weights) i 0 (omega (arith, length-uncovered covered weights)) ∙ sym (ap (cond (shows covered i) 0) (get_or_past weights i 0 l) ∙ cond_same (shows covered i) 0)
 
   -- a covered class has the weight 0
-  pub get_or_uncovered : get_or (uncovered covered weights) i 0 ≡ cond (shows covered i) 0 (get_or weights i 0)
+  pub get_or_uncovered : slice_index (uncovered covered weights) i ≡ (if shows covered i then 0 else slice_index weights i)
   get_or_uncovered = ⊎_elim get_or_near get_or_beyond (cases_lt i (length weights))
 
 shows_none : (i : ℕ) → shows 0 i ≡ false
-shows_none i = ap (λ n. eqb (n % 2) 1) (zero-div (2 ^ i))
+shows_none i = ap (λ k. eqb k 1) (bit_at-zero i)
 
 -- where no class is covered, all weights are left
 pub uncovered_none : (weights : List ℕ) → uncovered 0 weights ≡ weights
 uncovered_none weights = ext_get_or 0 (uncovered 0 weights) weights (length-uncovered 0 weights) (λ i l. get_or_uncovered 0 weights i ∙ ap (λ b. cond b 0 (get_or weights i 0)) (shows_none i))
 
-module _ {A : Type 0} (marks : A → ℕ) (weights : List ℕ) (limit : (i : ℕ) → get_or weights i 0 ≤ 67108863) where
+module _ {A : Type 0} (marks : A → ℕ) (weights : List ℕ) (limit : (i : ℕ) → slice_index weights i ≤ 67108863) where
   pub coverage_keeps : Lawful (coverage marks weights)
   coverage_keeps = record { submodular = coverage_lawful marks weights; bounded = coverage_small marks weights (All-from_get_or (λ w. w ≤ 67108863) weights 0 (λ i l. limit i)) }
 
 module _ {A : Type 0} (marks : A → ℕ) (covered : ℕ) (weights : List ℕ) where
-  pub uncovered_keeps : ((i : ℕ) → get_or weights i 0 ≤ 67108863) → Lawful (coverage marks (uncovered covered weights))
+  pub uncovered_keeps : ((i : ℕ) → slice_index weights i ≤ 67108863) → Lawful (coverage marks (uncovered covered weights))
   uncovered_keeps limit = coverage_keeps marks (uncovered covered weights) (λ i. let low = cond_le_else (shows covered i) (get_or weights i 0) 67108863 (limit i) in omega (arith, low, get_or_uncovered covered weights i))
 
   -- once x is added its classes are covered too
@@ -57,7 +57,7 @@ module _ {A : Type 0} (marks : A → ℕ) (covered : ℕ) (weights : List ℕ) w
   unfolding coverage
   coverage_added x s = adds_below (λ i. of_class marks (uncovered covered weights) i (x ∷ s)) (λ i. of_class marks (uncovered (bit_or covered (marks x)) weights) i s) (λ i. of_class marks (uncovered covered weights) i (x ∷ [])) 64 (λ i l. each i)
     where
-      go : (c m r : Bool) (w : ℕ) → cond (m || r) (cond c 0 w) 0 ≡ cond r (cond (c || m) 0 w) 0 + cond (m || false) (cond c 0 w) 0
+      go : (c m r : Bool) (w : ℕ) → (if m || r then (if c then 0 else w) else 0) ≡ (if r then (if c || m then 0 else w) else 0) + (if m || false then (if c then 0 else w) else 0)
       go true true true w = refl
       go true true false w = refl
       go true false true w = refl
@@ -68,35 +68,21 @@ module _ {A : Type 0} (marks : A → ℕ) (covered : ℕ) (weights : List ℕ) w
       go false false false w = refl
 
       each : (i : ℕ) → of_class marks (uncovered covered weights) i (x ∷ s) ≡ of_class marks (uncovered (bit_or covered (marks x)) weights) i s + of_class marks (uncovered covered weights) i (x ∷ [])
-      each i = simp (get_or_uncovered, shows_or) (go (shows covered i) (shows (marks x) i) (some (λ y. shows (marks y) i) s) (get_or weights i 0))
+      each i = simp (get_or_uncovered, shows_or) (go (shows covered i) (shows (marks x) i) (list_any (λ y. shows (marks y) i) s) (get_or weights i 0))
 
 -- classes in both sets
 pub shows_and : (m n i : ℕ) → shows (bit_and m n) i ≡ (shows m i && shows n i)
-shows_and m n i = ap (λ k. eqb (k % 2) 1) (and_shr m n i) ∙ last (m / 2 ^ i) (n / 2 ^ i)
+shows_and m n i = ap (λ k. eqb k 1) (bit_at_and m n i) ∙ both (bit_at m i) (bit_at n i) (omega arith) (omega arith)
   where
-    both : (u v : ℕ) → u < 2 → v < 2 → eqb (min u v) 1 ≡ (eqb u 1 && eqb v 1)
+    both : (u v : ℕ) → u < 2 → v < 2 → (min u v == 1) ≡ (u == 1 && v == 1)
     both u v h k = grind arith
 
-    lowest : (a b : ℕ) → bit_and a b % 2 ≡ min (a % 2) (b % 2)
-    lowest a b = omega (arith, and_step a b)
-
-    last : (a b : ℕ) → eqb (bit_and a b % 2) 1 ≡ (eqb (a % 2) 1 && eqb (b % 2) 1)
-    last a b = ap (λ k. eqb k 1) (lowest a b) ∙ both (a % 2) (b % 2) (omega arith) (omega arith)
-
-shows_half : (m i : ℕ) → shows m (suc i) ≡ shows (m / 2) i
-shows_half m i = ap (λ k. eqb (k % 2) 1) (ap (λ j. m / 2 ^ j) (sym (one-add i)) ∙ sym (shr-shr m 1 i))
-
--- of the classes below n, those that are not in the set
-pub shows-not : (n m i : ℕ) → i < n → m < 2 ^ n → shows (2 ^ n - 1 - m) i ≡ not (shows m i)
-shows-not zero m i l h = absurd (omega arith)
-shows-not (suc n) m zero l h = ap (λ k. eqb (k % 2) 1) (div-one (2 ^ suc n - 1 - m)) ∙ last (m % 2) (omega arith) (omega (arith, pow-suc 2 n)) ∙ ap (λ k. not (eqb (k % 2) 1)) (sym (div-one m))
+-- of the 64 classes, those that are not in the set
+pub shows-not : (m i : ℕ) → i < 64 → m < 2 ^ 64 → shows (bit_not w64 m) i ≡ not (shows m i)
+shows-not m i l h = ap (λ k. eqb k 1) (bit_at_not w64 m i h l) ∙ other (bit_at m i) (omega arith)
   where
-    last : (u : ℕ) → u < 2 → (2 ^ suc n - 1 - m) % 2 ≡ 1 - u → eqb ((2 ^ suc n - 1 - m) % 2) 1 ≡ not (eqb u 1)
-    last u k e = grind arith
-shows-not (suc n) m (suc i) l h = shows_half (2 ^ suc n - 1 - m) i ∙ ap (λ k. shows k i) half ∙ shows-not n (m / 2) i (omega arith) (omega (arith, pow-suc 2 n)) ∙ ap not (sym (shows_half m i))
-  where
-    half : (2 ^ suc n - 1 - m) / 2 ≡ 2 ^ n - 1 - m / 2
-    half = omega (arith, pow-suc 2 n)
+    other : (u : ℕ) → u < 2 → (1 - u == 1) ≡ not (u == 1)
+    other u k = grind arith
 
 -- the weights of the classes below n that some frame shows
 abbrev pub classes_below : {A : Type 0} → (A → ℕ) → List ℕ → ℕ → List A → ℕ
@@ -111,10 +97,10 @@ module _ {A : Type 0} (marks : A → ℕ) (weights : List ℕ) (s : List A) wher
   classes_all n e = ap (λ k. classes_below marks weights k s) e
 
 -- class i counts for x if x shows it and it is not covered yet
-pub class_new : {A : Type 0} (marks : A → ℕ) (covered : ℕ) (weights : List ℕ) (x : A) (n i : ℕ) → i < n → covered < 2 ^ n → cond (shows (bit_and (marks x) (2 ^ n - 1 - covered)) i) (get_or weights i 0) 0 ≡ of_class marks (uncovered covered weights) i (x ∷ [])
-class_new marks covered weights x n i l h = ap (λ b. cond b (get_or weights i 0) 0) (shows_and (marks x) (2 ^ n - 1 - covered) i ∙ ap (λ b. shows (marks x) i && b) (shows-not n covered i l h)) ∙ go (shows (marks x) i) (shows covered i) (get_or weights i 0) ∙ ap (λ w. cond (shows (marks x) i || false) w 0) (sym (get_or_uncovered covered weights i))
+pub class_new : {A : Type 0} (marks : A → ℕ) (covered : ℕ) (weights : List ℕ) (x : A) (i : ℕ) → i < 64 → covered < 2 ^ 64 → (if shows (bit_and (marks x) (bit_not w64 covered)) i then slice_index weights i else 0) ≡ of_class marks (uncovered covered weights) i (x ∷ [])
+class_new marks covered weights x i l h = ap (λ b. cond b (get_or weights i 0) 0) (shows_and (marks x) (bit_not w64 covered) i ∙ ap (λ b. shows (marks x) i && b) (shows-not covered i l h)) ∙ go (shows (marks x) i) (shows covered i) (get_or weights i 0) ∙ ap (λ w. cond (shows (marks x) i || false) w 0) (sym (get_or_uncovered covered weights i))
   where
-    go : (m c : Bool) (w : ℕ) → cond (m && not c) w 0 ≡ cond (m || false) (cond c 0 w) 0
+    go : (m c : Bool) (w : ℕ) → (if m && not c then w else 0) ≡ (if m || false then (if c then 0 else w) else 0)
     go true true w = refl
     go true false w = refl
     go false c w = refl

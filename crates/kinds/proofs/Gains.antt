@@ -1,11 +1,12 @@
 -- Sums over indices, and what one frame more adds to them. Assumes nothing.
-use Rattle.std.proofs.Common.{◌≡◌, ℕ, zero, suc, ◌+◌, ◌/◌, ◌%◌, ◌^◌, ◌<◌, ◌≤◌, max, Bool, true, false, cond, not, ◌&&◌, ◌||◌, eqb, ◌⊎◌, List, [], ◌∷◌, get_or, sum_by, sym, refl, ap, ◌∙◌, inl, inr, ⊎_elim, arith}
-use lib.Bits.{bit_or, or_step}
-use Rattle.std.specs.List.{range_with_len, AllByRecursion}
-use Rattle.std.proofs.lemmas.Nat.{or_shr}
+use Rattle.std.proofs.Common.{◌≡◌, ℕ, zero, suc, ◌+◌, ◌<◌, ◌≤◌, max, Bool, true, false, cond, not, ◌&&◌, ◌||◌, eqb, ◌⊎◌, List, [], ◌∷◌, get_or, sum_by, sym, refl, ap, ◌∙◌, inl, inr, ⊎_elim, arith, if◌then◌else◌, ◌==◌, slice_index}
+use lib.Bits.{bit_or}
+use Rattle.std.specs.Int.{bit_at}
+use Rattle.std.specs.List.{list_any, range_with_len, AllByRecursion}
+use Rattle.std.proofs.lemmas.Nat.Bits.{bit_at_or}
 use Rattle.std.proofs.lemmas.List.Sums.{sum_by-cons}
 use Rattle.std.proofs.lemmas.Bool.{cases_eq, eq-eqb, ne_eqb}
-use Rattle.kinds.specs.Objectives.{some, shows, of_class, coverage}
+use Rattle.kinds.specs.Objectives.{shows, of_class, coverage}
 use Rattle.kinds.proofs.Objectives.{all_counting}
 
 sum_adds : {I : Type 0} (a b c : I → ℕ) (is : List I) → AllByRecursion (λ i. a i ≡ b i + c i) is → sum_by a is ≡ sum_by b is + sum_by c is
@@ -18,24 +19,18 @@ adds_below a b c n h = sum_adds a b c (range_with_len 0 n) (all_counting (λ i. 
 
 -- the set of two sets
 pub shows_or : (m n i : ℕ) → shows (bit_or m n) i ≡ (shows m i || shows n i)
-shows_or m n i = ap (λ k. eqb (k % 2) 1) (or_shr m n i) ∙ last (m / 2 ^ i) (n / 2 ^ i)
+shows_or m n i = ap (λ k. eqb k 1) (bit_at_or m n i) ∙ top (bit_at m i) (bit_at n i) (omega arith) (omega arith)
   where
-    top : (u v : ℕ) → u < 2 → v < 2 → eqb (max u v) 1 ≡ (eqb u 1 || eqb v 1)
+    top : (u v : ℕ) → u < 2 → v < 2 → (max u v == 1) ≡ (u == 1 || v == 1)
     top u v h k = grind arith
-
-    lowest : (a b : ℕ) → bit_or a b % 2 ≡ max (a % 2) (b % 2)
-    lowest a b = omega (arith, or_step a b)
-
-    last : (a b : ℕ) → eqb (bit_or a b % 2) 1 ≡ (eqb (a % 2) 1 || eqb (b % 2) 1)
-    last a b = ap (λ k. eqb k 1) (lowest a b) ∙ top (a % 2) (b % 2) (omega arith) (omega arith)
 
 module _ {A : Type 0} (x : A) (s : List A) where
   -- the classes that x shows and no frame before it
-  pub coverage-gain : (marks : A → ℕ) (weights : List ℕ) → coverage marks weights (x ∷ s) ≡ coverage marks weights s + sum_by (λ i. cond (shows (marks x) i && not (some (λ y. shows (marks y) i) s)) (get_or weights i 0) 0) (range_with_len 0 64)
+  pub coverage-gain : (marks : A → ℕ) (weights : List ℕ) → coverage marks weights (x ∷ s) ≡ coverage marks weights s + sum_by (λ i. if shows (marks x) i && not (list_any (λ y. shows (marks y) i) s) then slice_index weights i else 0) (range_with_len 0 64)
   unfolding coverage
-  coverage-gain marks weights = adds_below (λ i. of_class marks weights i (x ∷ s)) (λ i. of_class marks weights i s) (λ i. cond (shows (marks x) i && not (some (λ y. shows (marks y) i) s)) (get_or weights i 0) 0) 64 (λ i l. go (shows (marks x) i) (some (λ y. shows (marks y) i) s) (get_or weights i 0))
+  coverage-gain marks weights = adds_below (λ i. of_class marks weights i (x ∷ s)) (λ i. of_class marks weights i s) (λ i. cond (shows (marks x) i && not (list_any (λ y. shows (marks y) i) s)) (get_or weights i 0) 0) 64 (λ i l. go (shows (marks x) i) (list_any (λ y. shows (marks y) i) s) (get_or weights i 0))
     where
-      go : (a b : Bool) (w : ℕ) → cond (a || b) w 0 ≡ cond b w 0 + cond (a && not b) w 0
+      go : (a b : Bool) (w : ℕ) → (if a || b then w else 0) ≡ (if b then w else 0) + (if a && not b then w else 0)
       go true true w = omega arith
       go true false w = omega arith
       go false true w = omega arith
@@ -44,7 +39,7 @@ module _ {A : Type 0} (x : A) (s : List A) where
 -- a sum in which one index alone counts
 module _ (g : ℕ → ℕ) (k : ℕ) where
   unfoldable pub only : ℕ → ℕ
-  only l = cond (eqb k l) (g l) 0
+  only l = if k == l then g l else 0
 
   pub only_not : (a : ℕ) → (k ≡ a → ⊥) → only a ≡ 0
   unfolding only

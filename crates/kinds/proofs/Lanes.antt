@@ -1,5 +1,5 @@
 -- The matroids of lanes, and of boxes that hold lanes and one another. Assumes nothing.
-use Rattle.std.proofs.Common.{◌≡◌, ℕ, zero, suc, ◌+◌, ◌<◌, ◌≤◌, Bool, true, false, ◌&&◌, ◌||◌, eqb, ltb, ◌⊎◌, List, length, get_or, sym, refl, ap, ◌∙◌, subst, inl, inr, ⊎_elim, arith}
+use Rattle.std.proofs.Common.{◌≡◌, ℕ, zero, suc, ◌+◌, ◌<◌, ◌≤◌, Bool, true, false, ◌&&◌, ◌||◌, eqb, ltb, ◌⊎◌, List, length, get_or, sym, refl, ap, ◌∙◌, subst, inl, inr, ⊎_elim, arith, ◌==◌}
 use Rattle.std.proofs.lemmas.List.{get_or_past}
 use Rattle.std.proofs.lemmas.Bool.{cases_Bool, cases_lt, eqb-true, eq-eqb, ne_eqb, ltb-true, and_parts, or_cases, or_left, or_right}
 use Rattle.std.proofs.lemmas.Bool.Decides.{same_from_decides}
@@ -17,7 +17,7 @@ module _ {A : Type 0} {same : A → A → Bool} (eq : Same same) (lane : A → �
   unfolding partition
   partition_matroid caps = lanes_matroid (λ l x. eqb (lane x) l) caps 64 (λ i j k l x e f. absurd (omega (arith, eqb-true (lane x) j e, eqb-true (lane x) i f)))
 
-reaches_self : (parents : List ℕ) (k b j : ℕ) → eqb b j ≡ true → reaches parents k b j ≡ true
+reaches_self : (parents : List ℕ) (k b j : ℕ) → (b == j) ≡ true → reaches parents k b j ≡ true
 reaches_self parents zero b j h = h
 reaches_self parents (suc k) b j h = or_left (eqb b j) (reaches parents k (parent_of parents b) j) h
 
@@ -87,7 +87,7 @@ module _ (parents : List ℕ) (law : Parents parents) where
   unfolding lies_in
   lies_on b j l other = both (reaches parents 95 (parent_of parents b) j) (reaches parents 96 (parent_of parents b) j) (reaches_enough 95 96 (parent_of parents b) j l (omega arith)) (reaches_enough 96 95 (parent_of parents b) j l (omega arith))
     where
-      both : (p q : Bool) → (p ≡ true → q ≡ true) → (q ≡ true → p ≡ true) → (eqb b j || p) ≡ q
+      both : (p q : Bool) → (p ≡ true → q ≡ true) → (q ≡ true → p ≡ true) → (b == j || p) ≡ q
       both p q f g = ap (λ e. e || p) (ne_eqb b j other) ∙ same_from_decides p q (f, g) (λ e. e, λ e. e)
 
 -- the test of each box and its parent

@@ -1,11 +1,11 @@
 -- Ways to make one submodular function of others. Assumes nothing.
-use Rattle.std.proofs.Common.{◌≡◌, ℕ, suc, ◌+◌, ◌*◌, ◌≤◌, min, max, Bool, true, false, cond, ◌||◌, List, [], ◌∷◌, sum_by, count_by, sym, refl, ap, ◌∙◌, subst, mul-le-mul_left, mul-add, arith}
+use Rattle.std.proofs.Common.{◌≡◌, ℕ, suc, ◌+◌, ◌*◌, ◌≤◌, min, max, Bool, true, false, cond, ◌||◌, List, [], ◌∷◌, sum_by, count_by, sym, refl, ap, ◌∙◌, subst, mul-le-mul_left, mul-add, arith, if◌then◌else◌}
 use mathlib.Core.Path.{fun_ext}
-use Rattle.std.specs.List.{AllByRecursion}
+use Rattle.std.specs.List.{list_any, AllByRecursion}
 use Rattle.std.proofs.lemmas.List.Sums.{sum_by-cons}
 use Rattle.theory.specs.Laws.{Submodular}
 use Rattle.theory.proofs.Orders.{orderless_after, orderless_fold, orderless_sum_by}
-use Rattle.kinds.specs.Objectives.{some, greatest}
+use Rattle.kinds.specs.Objectives.{greatest}
 use Rattle.kinds.proofs.Counts.{next, count_next}
 
 pub lawful_same : {A : Type 0} {f g : List A → ℕ} → ((s : List A) → f s ≡ g s) → Submodular f → Submodular g
@@ -51,19 +51,19 @@ greatest_lawful v = record {
   falls = λ x y s. omega arith;
 }
 
-some-greatest : {A : Type 0} (p : A → Bool) (w : ℕ) (s : List A) → greatest (λ x. cond (p x) w 0) s ≡ cond (some p s) w 0
-some-greatest p w [] = refl
-some-greatest p w (x ∷ s) = go (p x) (some p s) (some-greatest p w s)
+greatest_any : {A : Type 0} (p : A → Bool) (w : ℕ) (s : List A) → greatest (λ x. if p x then w else 0) s ≡ (if list_any p s then w else 0)
+greatest_any p w [] = refl
+greatest_any p w (x ∷ s) = go (p x) (list_any p s) (greatest_any p w s)
   where
-    go : (a b : Bool) {m : ℕ} → m ≡ cond b w 0 → max (cond a w 0) m ≡ cond (a || b) w 0
+    go : (a b : Bool) {m : ℕ} → m ≡ (if b then w else 0) → max (if a then w else 0) m ≡ (if a || b then w else 0)
     go true true e = omega arith
     go true false e = omega arith
     go false true e = omega arith
     go false false e = omega arith
 
 -- w, once some frame passes p
-pub some_lawful : {A : Type 0} (p : A → Bool) (w : ℕ) → Submodular (λ s. cond (some p s) w 0)
-some_lawful p w = lawful_same (some-greatest p w) (greatest_lawful (λ x. cond (p x) w 0))
+pub any_lawful : {A : Type 0} (p : A → Bool) (w : ℕ) → Submodular (λ s. if list_any p s then w else 0)
+any_lawful p w = lawful_same (greatest_any p w) (greatest_lawful (λ x. cond (p x) w 0))
 
 -- g rises from 0, by less and less
 pub record Concave (g : ℕ → ℕ) : Type 0 where

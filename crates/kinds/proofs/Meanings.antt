@@ -1,5 +1,5 @@
 -- What the tests of independence say, of a bag and of one frame more. Assumes nothing.
-use Rattle.std.proofs.Common.{◌≡◌, ℕ, ◌+◌, ◌-◌, ◌<◌, ◌≤◌, Bool, true, false, cond, eqb, ltb, leb, ◌⊎◌, ◌↔◌, List, [], ◌∷◌, length, get_or, set, count_by, sym, refl, ap, ◌∙◌, subst, inl, inr, ⊎_elim, arith}
+use Rattle.std.proofs.Common.{◌≡◌, ℕ, ◌+◌, ◌-◌, ◌<◌, ◌≤◌, Bool, true, false, cond, eqb, leb, ◌⊎◌, ◌↔◌, List, [], ◌∷◌, length, get_or, set, count_by, sym, refl, ap, ◌∙◌, subst, inl, inr, ⊎_elim, arith, if◌then◌else◌, ◌==◌, nat_lt, slice_index}
 use Rattle.std.specs.List.{AllByRecursion}
 use Rattle.std.proofs.ByRecursion.{All-weaker}
 use Rattle.std.proofs.lemmas.List.{get_or-set_same, get_or-set_other}
@@ -17,11 +17,11 @@ none_means p (x ∷ s) = (λ h. ⊎_elim (λ e. absurd (omega (arith, leb-true (
 
 -- all frames are of lanes, and no box has more than its cap
 abbrev pub Roomy : {A : Type 0} → (A → ℕ) → (ℕ → A → Bool) → List ℕ → ℕ → List A → Type 0
-Roomy lane box caps n s = AllByRecursion (λ x. lane x < 64) s × ((j : ℕ) → j < n → count_by (box j) s ≤ get_or caps j 0)
+Roomy lane box caps n s = AllByRecursion (λ x. lane x < 64) s × ((j : ℕ) → j < n → count_by (box j) s ≤ slice_index caps j)
 
 -- x is of a lane, and each box that it lies in has fewer frames than its cap
 abbrev pub RoomFor : {A : Type 0} → (A → ℕ) → (ℕ → A → Bool) → List ℕ → ℕ → List A → A → Type 0
-RoomFor lane box caps n s x = (lane x < 64) × ((j : ℕ) → j < n → box j x ≡ true → count_by (box j) s < get_or caps j 0)
+RoomFor lane box caps n s x = (lane x < 64) × ((j : ℕ) → j < n → box j x ≡ true → count_by (box j) s < slice_index caps j)
 
 module _ {A : Type 0} (lane : A → ℕ) (box : ℕ → A → Bool) (caps : List ℕ) (n : ℕ) where
   means : (s : List A) → (in_lanes lane box caps n s ≡ true) ↔ Roomy lane box caps n s
@@ -31,10 +31,10 @@ module _ {A : Type 0} (lane : A → ℕ) (box : ℕ → A → Bool) (caps : List
   )
     where
       outside : A → Bool
-      outside x = ltb 63 (lane x)
+      outside x = nat_lt 63 (lane x)
 
       cap : ℕ → ℕ
-      cap j = get_or caps j 0
+      cap j = slice_index caps j
 
   one_more : (x : A) (s : List A) → in_lanes lane box caps n s ≡ true → (in_lanes lane box caps n (x ∷ s) ≡ true) ↔ RoomFor lane box caps n s x
   one_more x s h =
@@ -45,29 +45,29 @@ module _ {A : Type 0} (lane : A → ℕ) (box : ℕ → A → Bool) (caps : List
 
 module _ {A : Type 0} (lane : A → ℕ) (box : ℕ → A → Bool) (caps : List ℕ) (n : ℕ) (x : A) (s : List A) where
   -- x takes one from the cap of each box that it lies in
-  takes : (after : List ℕ) → lane x < 64 → ((j : ℕ) → j < n → get_or after j 0 + cond (box j x) 1 0 ≡ get_or caps j 0) → in_lanes lane box caps n (x ∷ s) ≡ in_lanes lane box after n s
+  takes : (after : List ℕ) → lane x < 64 → ((j : ℕ) → j < n → slice_index after j + (if box j x then 1 else 0) ≡ slice_index caps j) → in_lanes lane box caps n (x ∷ s) ≡ in_lanes lane box after n s
   takes after low h =
       same_from_decides (in_lanes lane box caps n (x ∷ s)) (in_lanes lane box after n s) (means lane box caps n (x ∷ s))
       (Decides-like (in_lanes lane box after n s) (λ k. ((low, k.0), λ j l. omega (arith, k.1 j l, h j l, one j))) (λ k. (k.0.1, λ j l. omega (arith, k.1 j l, h j l, one j))) (means lane box after n s))
     where
-      one : (j : ℕ) → count_by (box j) (x ∷ s) ≡ cond (box j x) 1 0 + count_by (box j) s
+      one : (j : ℕ) → count_by (box j) (x ∷ s) ≡ (if box j x then 1 else 0) + count_by (box j) s
       one j = sum_by-cons (λ y. cond (box j y) 1 0) x s
 
   -- where x is of no lane, or a box that it lies in may have no frame, no bag with x is independent
-  full : (64 ≤ lane x) ⊎ ((j : ℕ) × (j < n) × (box j x ≡ true) × (get_or caps j 0 ≡ 0)) → in_lanes lane box caps n (x ∷ s) ≡ false
+  full : (64 ≤ lane x) ⊎ ((j : ℕ) × (j < n) × (box j x ≡ true) × (slice_index caps j ≡ 0)) → in_lanes lane box caps n (x ∷ s) ≡ false
   full h = ⊎_elim (λ t. absurd (clash h ((means lane box caps n (x ∷ s)).0 t))) (λ f. f) (cases_Bool (in_lanes lane box caps n (x ∷ s)))
     where
-      clash : (64 ≤ lane x) ⊎ ((j : ℕ) × (j < n) × (box j x ≡ true) × (get_or caps j 0 ≡ 0)) → Roomy lane box caps n (x ∷ s) → ⊥
+      clash : (64 ≤ lane x) ⊎ ((j : ℕ) × (j < n) × (box j x ≡ true) × (slice_index caps j ≡ 0)) → Roomy lane box caps n (x ∷ s) → ⊥
       clash (inl out) r = omega (arith, r.0.0)
       clash (inr none) r = omega (arith, r.1 none.0 none.1, none.3, count_at (box none.0) x s true none.2)
 
 module _ {A : Type 0} (lane : A → ℕ) (caps : List ℕ) where
-  pub partition_means : (s : List A) → (partition lane caps s ≡ true) ↔ Roomy lane (λ l x. eqb (lane x) l) caps 64 s
+  pub partition_means : (s : List A) → (partition lane caps s ≡ true) ↔ Roomy lane (λ l x. lane x == l) caps 64 s
   unfolding partition
   partition_means = means lane (λ l x. eqb (lane x) l) caps 64
 
   -- only the lane of x counts
-  pub partition_more : (x : A) (s : List A) → partition lane caps s ≡ true → (partition lane caps (x ∷ s) ≡ true) ↔ ((lane x < 64) × (count_by (λ y. eqb (lane y) (lane x)) s < get_or caps (lane x) 0))
+  pub partition_more : (x : A) (s : List A) → partition lane caps s ≡ true → (partition lane caps (x ∷ s) ≡ true) ↔ ((lane x < 64) × (count_by (λ y. lane y == lane x) s < slice_index caps (lane x)))
   unfolding partition
   partition_more x s h =
       let got = one_more lane (λ l y. eqb (lane y) l) caps 64 x s h in
@@ -75,11 +75,11 @@ module _ {A : Type 0} (lane : A → ℕ) (caps : List ℕ) where
 
 module _ {A : Type 0} (lane : A → ℕ) (caps : List ℕ) (x : A) (s : List A) where
   -- x takes one from the cap of its lane
-  pub partition_takes : lane x < length caps → 0 < get_or caps (lane x) 0 → lane x < 64 → partition lane caps (x ∷ s) ≡ partition lane (set caps (lane x) (get_or caps (lane x) 0 - 1)) s
+  pub partition_takes : lane x < length caps → 0 < slice_index caps (lane x) → lane x < 64 → partition lane caps (x ∷ s) ≡ partition lane (set caps (lane x) (slice_index caps (lane x) - 1)) s
   unfolding partition
   partition_takes inside place low = takes lane (λ l y. eqb (lane y) l) caps 64 x s (set caps (lane x) (get_or caps (lane x) 0 - 1)) low (λ j l. one j)
     where
-      one : (j : ℕ) → get_or (set caps (lane x) (get_or caps (lane x) 0 - 1)) j 0 + cond (eqb (lane x) j) 1 0 ≡ get_or caps j 0
+      one : (j : ℕ) → slice_index (set caps (lane x) (slice_index caps (lane x) - 1)) j + (if lane x == j then 1 else 0) ≡ slice_index caps j
       one j =
           ⊎_elim
           (λ e. omega (arith, ap {B = ℕ} (λ b. cond b 1 0) (eq-eqb (lane x) j e), ap (λ i. get_or (set caps (lane x) (get_or caps (lane x) 0 - 1)) i 0) e, get_or-set_same caps (lane x) (get_or caps (lane x) 0 - 1) 0 inside, ap (λ i. get_or caps i 0) e))
@@ -87,7 +87,7 @@ module _ {A : Type 0} (lane : A → ℕ) (caps : List ℕ) (x : A) (s : List A) 
           (cases_eq (lane x) j)
 
   -- where the lane of x may have no frame, no bag with x is independent
-  pub partition_full : (64 ≤ lane x) ⊎ (get_or caps (lane x) 0 ≡ 0) → partition lane caps (x ∷ s) ≡ false
+  pub partition_full : (64 ≤ lane x) ⊎ (slice_index caps (lane x) ≡ 0) → partition lane caps (x ∷ s) ≡ false
   unfolding partition
   partition_full (inl out) = full lane (λ l y. eqb (lane y) l) caps 64 x s (inl out)
   partition_full (inr none) = full lane (λ l y. eqb (lane y) l) caps 64 x s (⊎_elim (λ low. inr (lane x, low, eq-eqb (lane x) (lane x) refl, none)) inl (cases_lt (lane x) 64))
@@ -102,11 +102,11 @@ module _ {A : Type 0} (lane : A → ℕ) (parents caps : List ℕ) where
   laminar_more = one_more lane (λ j x. lies_in parents (lane x) j) caps 96
 
   -- x takes one from the cap of each box that it lies in
-  pub laminar_takes : (x : A) (s : List A) (after : List ℕ) → lane x < 64 → ((j : ℕ) → j < 96 → get_or after j 0 + cond (lies_in parents (lane x) j) 1 0 ≡ get_or caps j 0) → laminar lane parents caps (x ∷ s) ≡ laminar lane parents after s
+  pub laminar_takes : (x : A) (s : List A) (after : List ℕ) → lane x < 64 → ((j : ℕ) → j < 96 → slice_index after j + (if lies_in parents (lane x) j then 1 else 0) ≡ slice_index caps j) → laminar lane parents caps (x ∷ s) ≡ laminar lane parents after s
   unfolding laminar
   laminar_takes = takes lane (λ j x. lies_in parents (lane x) j) caps 96
 
   -- where x is of no lane, or a box that it lies in may have no frame, no bag with x is independent
-  pub laminar_full : (x : A) (s : List A) → (64 ≤ lane x) ⊎ ((j : ℕ) × (j < 96) × (lies_in parents (lane x) j ≡ true) × (get_or caps j 0 ≡ 0)) → laminar lane parents caps (x ∷ s) ≡ false
+  pub laminar_full : (x : A) (s : List A) → (64 ≤ lane x) ⊎ ((j : ℕ) × (j < 96) × (lies_in parents (lane x) j ≡ true) × (slice_index caps j ≡ 0)) → laminar lane parents caps (x ∷ s) ≡ false
   unfolding laminar
   laminar_full = full lane (λ j x. lies_in parents (lane x) j) caps 96

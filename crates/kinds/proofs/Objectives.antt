@@ -1,12 +1,12 @@
 -- Each kind of objective is submodular, and its values fit 32 bits. Assumes nothing.
-use Rattle.std.proofs.Common.{◌≡◌, ℕ, zero, suc, ◌+◌, ◌*◌, ◌<◌, ◌≤◌, Bool, true, false, cond, List, [], ◌∷◌, get_or, sum_by, sym, ap, ◌∙◌, arith}
-use Rattle.std.specs.List.{range_with_len, AllByRecursion}
+use Rattle.std.proofs.Common.{◌≡◌, ℕ, zero, suc, ◌+◌, ◌*◌, ◌<◌, ◌≤◌, Bool, true, false, List, [], ◌∷◌, get_or, sum_by, sym, ap, ◌∙◌, arith, if◌then◌else◌, slice_index}
+use Rattle.std.specs.List.{list_any, range_with_len, AllByRecursion}
 use Rattle.std.proofs.lemmas.List.{map-id}
 use Rattle.std.proofs.lemmas.List.FromFn.{length-range_with_len, sum_by-map-range_with_len_more}
 use Rattle.std.proofs.ByRecursion.{sum_by_le}
 use Rattle.theory.specs.Laws.{Submodular, Lawful}
-use Rattle.kinds.specs.Objectives.{Bounded, some, greatest, shows, of_class, coverage, likeness, of_view, facility, capped, joint}
-use Rattle.kinds.proofs.Lawful.{plus_lawful, min_lawful, sum_lawful, greatest_lawful, some_lawful}
+use Rattle.kinds.specs.Objectives.{Bounded, greatest, shows, of_class, coverage, likeness, of_view, facility, capped, joint}
+use Rattle.kinds.proofs.Lawful.{plus_lawful, min_lawful, sum_lawful, greatest_lawful, any_lawful}
 
 pub all_counting : (P : ℕ → Type 0) (a n : ℕ) → ((i : ℕ) → i < a + n → P i) → AllByRecursion P (range_with_len a n)
 all_counting P a zero h = tt
@@ -24,12 +24,12 @@ module _ {A : Type 0} (f : ℕ → List A → ℕ) (n : ℕ) where
 pub below_more : (f : ℕ → ℕ) (n : ℕ) → sum_by f (range_with_len 0 (n + 1)) ≡ sum_by f (range_with_len 0 n) + f n
 below_more f n = ap (sum_by f) (sym (map-id (range_with_len 0 (n + 1)))) ∙ sum_by-map-range_with_len_more f (λ i. i) 0 n n (omega arith) ∙ ap (λ is. sum_by f is + f n) (map-id (range_with_len 0 n))
 
-pub get_or_le : (m : ℕ) (xs : List ℕ) (i : ℕ) → AllByRecursion (λ x. x ≤ m) xs → get_or xs i 0 ≤ m
+pub get_or_le : (m : ℕ) (xs : List ℕ) (i : ℕ) → AllByRecursion (λ x. x ≤ m) xs → slice_index xs i ≤ m
 get_or_le m [] i h = omega arith
 get_or_le m (x ∷ xs) zero h = h.0
 get_or_le m (x ∷ xs) (suc i) h = get_or_le m xs i h.1
 
-pub cond_le : (b : Bool) (n m : ℕ) → n ≤ m → cond b n 0 ≤ m
+pub cond_le : (b : Bool) (n m : ℕ) → n ≤ m → (if b then n else 0) ≤ m
 cond_le true n m h = h
 cond_le false n m h = omega arith
 
@@ -40,11 +40,11 @@ greatest_le v m h (x ∷ s) = omega (arith, h x, greatest_le v m h s)
 module _ {A : Type 0} (marks : A → ℕ) (weights : List ℕ) where
   pub coverage_lawful : Submodular (coverage marks weights)
   unfolding coverage
-  coverage_lawful = below_lawful (of_class marks weights) 64 (λ i l. some_lawful (λ x. shows (marks x) i) (get_or weights i 0))
+  coverage_lawful = below_lawful (of_class marks weights) 64 (λ i l. any_lawful (λ x. shows (marks x) i) (get_or weights i 0))
 
   pub coverage_small : AllByRecursion (λ w. w ≤ 67108863) weights → Bounded (coverage marks weights)
   unfolding coverage
-  coverage_small h = below_small (of_class marks weights) 64 67108863 (omega arith) (λ i l s. cond_le (some (λ x. shows (marks x) i) s) (get_or weights i 0) 67108863 (get_or_le 67108863 weights i h))
+  coverage_small h = below_small (of_class marks weights) 64 67108863 (omega arith) (λ i l s. cond_le (list_any (λ x. shows (marks x) i) s) (get_or weights i 0) 67108863 (get_or_le 67108863 weights i h))
 
 pub facility_keeps : {A : Type 0} (look : A → ℕ) (table : List ℕ) → Lawful (facility look table)
 unfolding facility

@@ -1,11 +1,12 @@
 -- The frames that pass a test and the others, each independent in a matroid of its own. Assumes nothing.
-use Rattle.std.proofs.Common.{◌≡◌, ℕ, ◌+◌, ◌<◌, Bool, true, false, cond, not, ◌&&◌, eqb, List, [], ◌∷◌, ◌++◌, length, filter, sym, refl, ap, ◌∙◌, subst, ap₂, ⊎_elim, arith}
+use Rattle.std.proofs.Common.{◌≡◌, ℕ, ◌<◌, Bool, true, false, cond, not, ◌&&◌, eqb, List, [], ◌∷◌, ◌++◌, length, filter, sym, refl, ap, ◌∙◌, subst, ap₂, ⊎_elim, arith, if◌then◌else◌}
 use mathlib.Core.Path.{fun_ext}
 use Rattle.std.proofs.lemmas.List.Elements.{filter-append}
-use Rattle.std.proofs.lemmas.List.Filters.{length-filter_both}
+use Rattle.std.proofs.lemmas.List.Filters.{length-filter_both, sum_by-filter_both}
 use Rattle.std.proofs.lemmas.Bool.{cases_Bool, cases_lt, both_ways, and_parts, and_from, cond-true, cond-false, not-true, not_from_true}
 use Rattle.theory.specs.Bag.{Same, count, Orderless}
 use Rattle.theory.specs.Laws.{MatroidLaws}
+use Rattle.theory.proofs.Bags.{count_cons}
 use Rattle.kinds.specs.Matroids.{direct_sum}
 
 pub matroid_same : {A : Type 0} {same : A → A → Bool} {adm other : List A → Bool} → ((s : List A) → adm s ≡ other s) → MatroidLaws same adm → MatroidLaws same other
@@ -15,7 +16,7 @@ module _ {A : Type 0} (p : A → Bool) where
   orderless_kept : {B : Type 0} (h : List A → B) → Orderless h → Orderless (λ s. h (filter p s))
   orderless_kept h o q x y s = ap h (filter-append p q (x ∷ y ∷ s)) ∙ go (p x) (p y) ∙ ap h (sym (filter-append p q (y ∷ x ∷ s)))
     where
-      go : (a b : Bool) → h (filter p q ++ cond a (x ∷ cond b (y ∷ filter p s) (filter p s)) (cond b (y ∷ filter p s) (filter p s))) ≡ h (filter p q ++ cond b (y ∷ cond a (x ∷ filter p s) (filter p s)) (cond a (x ∷ filter p s) (filter p s)))
+      go : (a b : Bool) → h (filter p q ++ (if a then x ∷ (if b then y ∷ filter p s else filter p s) else if b then y ∷ filter p s else filter p s)) ≡ h (filter p q ++ (if b then y ∷ (if a then x ∷ filter p s else filter p s) else if a then x ∷ filter p s else filter p s))
       go true true = o (filter p q) x y (filter p s)
       go true false = refl
       go false true = refl
@@ -24,33 +25,25 @@ module _ {A : Type 0} (p : A → Bool) where
   fewer_kept : {same : A → A → Bool} {adm : List A → Bool} → MatroidLaws same adm → (x : A) (s : List A) → adm (filter p (x ∷ s)) ≡ true → adm (filter p s) ≡ true
   fewer_kept {same} {adm} m x s = go (p x)
     where
-      go : (b : Bool) → adm (cond b (x ∷ filter p s) (filter p s)) ≡ true → adm (filter p s) ≡ true
+      go : (b : Bool) → adm (if b then x ∷ filter p s else filter p s) ≡ true → adm (filter p s) ≡ true
       go true h = m.fewer x (filter p s) h
       go false h = h
 
 module _ {A : Type 0} {same : A → A → Bool} (eq : Same same) (p : A → Bool) where
-  apart : (x y : A) (b : Bool) → p x ≡ b → p y ≡ not b → ◌≡◌ {A = ℕ} (cond (same x y) 1 0) 0
-  apart x y b e f = ⊎_elim (λ h. absurd (differ b (sym e ∙ ap p (eq.tells x y h) ∙ f))) (λ h. ap (λ a. cond a 1 0) h) (cases_Bool (same x y))
-    where
-      differ : (a : Bool) → a ≡ not a → ⊥
-      differ true h = both_ways true h refl
-      differ false h = both_ways false refl h
-
-  count_in : (x : A) → p x ≡ true → (s : List A) → count same x (filter p s) ≡ count same x s
-  count_in x e [] = refl
-  count_in x e (y ∷ s) = go (p y) refl (count_in x e s)
-    where
-      go : (b : Bool) → p y ≡ b → count same x (filter p s) ≡ count same x s → count same x (cond b (y ∷ filter p s) (filter p s)) ≡ cond (same x y) 1 0 + count same x s
-      go true f ih = omega arith
-      go false f ih = omega (arith, apart x y true e f)
+  apart : (x y : A) → p x ≡ false → p y ≡ true → ◌≡◌ {A = ℕ} (if same x y then 1 else 0) 0
+  apart x y e f = ⊎_elim (λ h. absurd (both_ways (p y) (sym (ap p (eq.tells x y h)) ∙ e) f)) (λ h. ap (λ a. cond a 1 0) h) (cases_Bool (same x y))
 
   count_out : (x : A) → p x ≡ false → (s : List A) → count same x (filter p s) ≡ 0
   count_out x e [] = refl
   count_out x e (y ∷ s) = go (p y) refl (count_out x e s)
     where
-      go : (b : Bool) → p y ≡ b → count same x (filter p s) ≡ 0 → count same x (cond b (y ∷ filter p s) (filter p s)) ≡ 0
-      go true f ih = omega (arith, apart x y false e f)
+      go : (b : Bool) → p y ≡ b → count same x (filter p s) ≡ 0 → count same x (if b then y ∷ filter p s else filter p s) ≡ 0
+      go true f ih = omega (arith, count_cons, apart x y e f)
       go false f ih = ih
+
+module _ {A : Type 0} {same : A → A → Bool} (eq : Same same) (p : A → Bool) where
+  count_in : (x : A) → p x ≡ true → (s : List A) → count same x (filter p s) ≡ count same x s
+  count_in x e s = omega (arith, count_out eq (λ y. not (p y)) x (not_from_true (p x) e) s, sum_by-filter_both p (λ y. not (p y)) (λ y. refl) (λ y. cond (same x y) 1 0) s)
 
   -- of two bags the one with more that passes p has a frame that passes p and can be added to what the other has of p; the rest stays
   pub part_exchange : {adm : List A → Bool} → MatroidLaws same adm → (q : A → Bool) → ((x : A) → p x ≡ true → q x ≡ false) → (s t : List A) → adm (filter p s) ≡ true → adm (filter p t) ≡ true → length (filter p s) < length (filter p t) → (x : A) × (count same x s < count same x t) × (adm (filter p (x ∷ s)) ≡ true) × (filter q (x ∷ s) ≡ filter q s)
@@ -60,7 +53,7 @@ module _ {A : Type 0} {same : A → A → Bool} (eq : Same same) (p : A → Bool
       from x c a =
           ⊎_elim
           (λ e. (x, omega (arith, c, count_in x e s, count_in x e t), ap adm (cond-true (p x) (x ∷ filter p s) (filter p s) e) ∙ a, cond-false (q x) (x ∷ filter q s) (filter q s) (other x e)))
-          (λ e. absurd (omega (arith, c, count_out x e t)))
+          (λ e. absurd (omega (arith, c, count_out eq p x e t)))
           (cases_Bool (p x))
 
 module _ {A : Type 0} {same : A → A → Bool} (eq : Same same) {adm other : List A → Bool} (m : MatroidLaws same adm) (n : MatroidLaws same other) (p : A → Bool) where

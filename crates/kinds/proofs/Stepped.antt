@@ -1,5 +1,5 @@
 -- Concave counts once each lane has had some frames. Assumes nothing.
-use Rattle.std.proofs.Common.{◌≡◌, ℕ, zero, suc, ◌+◌, ◌*◌, ◌<◌, ◌≤◌, min, true, false, eqb, List, [], ◌∷◌, length, get_or, take, drop, set, replicate, sum_by, sum, count_by, sym, refl, ap, ◌∙◌, inr, ⊎_elim, zero-add, arith}
+use Rattle.std.proofs.Common.{◌≡◌, ℕ, zero, suc, ◌+◌, ◌*◌, ◌<◌, ◌≤◌, min, true, false, eqb, List, [], ◌∷◌, length, get_or, take, drop, set, replicate, sum_by, sum, count_by, sym, refl, ap, ◌∙◌, inr, ⊎_elim, zero-add, arith, ◌==◌, slice_index}
 use mathlib.Core.Path.{fun_ext}
 use Rattle.std.specs.List.{range_with_len, AllByRecursion}
 use Rattle.std.proofs.lemmas.List.{length-take, length-drop, get_or-take, get_or-drop, get_or_past, get_or-set_same, get_or-set_other, drop-drop, drop_all}
@@ -15,14 +15,14 @@ use Rattle.kinds.proofs.Located.{get_or_zeros}
 use Rattle.kinds.proofs.Objectives.{below_lawful, below_small}
 
 -- one step more
-sum-take : (xs : List ℕ) (n : ℕ) → sum (take (suc n) xs) ≡ sum (take n xs) + get_or xs n 0
+sum-take : (xs : List ℕ) (n : ℕ) → sum (take (suc n) xs) ≡ sum (take n xs) + slice_index xs n
 sum-take [] zero = refl
 sum-take [] (suc n) = refl
 sum-take (x ∷ xs) zero = omega arith
 sum-take (x ∷ xs) (suc n) = omega (arith, sum-take xs n, sum_by-cons (λ y. y) x (take (suc n) xs), sum_by-cons (λ y. y) x (take n xs))
 
 -- the first step, and then those after it
-sum_first : (xs : List ℕ) (n : ℕ) → sum (take (suc n) xs) ≡ sum (take n (drop 1 xs)) + get_or xs 0 0
+sum_first : (xs : List ℕ) (n : ℕ) → sum (take (suc n) xs) ≡ sum (take n (drop 1 xs)) + slice_index xs 0
 sum_first [] zero = refl
 sum_first [] (suc n) = refl
 sum_first (x ∷ xs) n = omega (arith, sum_by-cons (λ y. y) x (take n xs))
@@ -53,10 +53,10 @@ module _ (xs : List ℕ) (h : Steps xs) where
 
 -- the steps of a lane by their places in the table
 module _ (steps : List ℕ) (l : ℕ) where
-  lane_falling : ((j : ℕ) → j < 7 → get_or steps (8 * l + j + 1) 0 ≤ get_or steps (8 * l + j) 0) → Falling (steps_of steps l)
+  lane_falling : ((j : ℕ) → j < 7 → slice_index steps (8 * l + j + 1) ≤ slice_index steps (8 * l + j)) → Falling (steps_of steps l)
   lane_falling h j = ⊎_elim near past (cases_lt j 7)
     where
-      near : j < 7 → get_or (steps_of steps l) (suc j) 0 ≤ get_or (steps_of steps l) j 0
+      near : j < 7 → slice_index (steps_of steps l) (suc j) ≤ slice_index (steps_of steps l) j
       near k =
           let same : 8 * l + suc j ≡ 8 * l + j + 1 = omega arith in
           omega (
@@ -69,10 +69,10 @@ module _ (steps : List ℕ) (l : ℕ) where
             ap (λ i. get_or steps i 0) same,
           )
 
-      past : 7 ≤ j → get_or (steps_of steps l) (suc j) 0 ≤ get_or (steps_of steps l) j 0
+      past : 7 ≤ j → slice_index (steps_of steps l) (suc j) ≤ slice_index (steps_of steps l) j
       past k = omega (arith, get_or_past (steps_of steps l) (suc j) 0 (omega (arith, length-take 8 (drop (8 * l) steps))))
 
-  pub steps_lane : ((i : ℕ) → get_or steps i 0 ≤ 8388607) → ((j : ℕ) → j < 7 → get_or steps (8 * l + j + 1) 0 ≤ get_or steps (8 * l + j) 0) → Steps (steps_of steps l)
+  pub steps_lane : ((i : ℕ) → slice_index steps i ≤ 8388607) → ((j : ℕ) → j < 7 → slice_index steps (8 * l + j + 1) ≤ slice_index steps (8 * l + j)) → Steps (steps_of steps l)
   steps_lane limit falls = record {
     few = omega (arith, length-take 8 (drop (8 * l) steps));
     low = All-take (λ n. n ≤ 8388607) 8 (drop (8 * l) steps) (All-drop (λ n. n ≤ 8388607) (8 * l) steps (All-from_get_or (λ n. n ≤ 8388607) steps 0 (λ i k. limit i)));
@@ -88,10 +88,10 @@ module _ {A : Type 0} (lane : A → ℕ) where
   }
 
   -- both meanings, whatever the counts
-  pub steps_keep : (steps : List ℕ) → ((i : ℕ) → get_or steps i 0 ≤ 8388607) → ((l j : ℕ) → j < 7 → get_or steps (8 * l + j + 1) 0 ≤ get_or steps (8 * l + j) 0) → Lawful (concave lane (steps_of steps))
+  pub steps_keep : (steps : List ℕ) → ((i : ℕ) → slice_index steps i ≤ 8388607) → ((l j : ℕ) → j < 7 → slice_index steps (8 * l + j + 1) ≤ slice_index steps (8 * l + j)) → Lawful (concave lane (steps_of steps))
   steps_keep steps limit falls = concave_keeps (steps_of steps) (λ l k. steps_lane steps l limit (falls l))
 
-  pub left_keeps : (counts steps : List ℕ) → ((i : ℕ) → get_or steps i 0 ≤ 8388607) → ((l j : ℕ) → j < 7 → get_or steps (8 * l + j + 1) 0 ≤ get_or steps (8 * l + j) 0) → Lawful (concave lane (steps_left counts steps))
+  pub left_keeps : (counts steps : List ℕ) → ((i : ℕ) → slice_index steps i ≤ 8388607) → ((l j : ℕ) → j < 7 → slice_index steps (8 * l + j + 1) ≤ slice_index steps (8 * l + j)) → Lawful (concave lane (steps_left counts steps))
   left_keeps counts steps limit falls = concave_keeps (steps_left counts steps) (λ l k. steps_drop (steps_of steps l) (steps_lane steps l limit (falls l)) (get_or counts l 0))
 
   -- where no frame is added all steps are left
@@ -100,7 +100,7 @@ module _ {A : Type 0} (lane : A → ℕ) where
 
 module _ {A : Type 0} (lane : A → ℕ) (steps_at : ℕ → List ℕ) (x : A) where
   first : ℕ → ℕ
-  first l = get_or (steps_at l) 0 0
+  first l = slice_index (steps_at l) 0
 
   one_lane : (l : ℕ) → of_lane lane steps_at l (x ∷ []) ≡ only first (lane x) l
   unfolding first
@@ -115,7 +115,7 @@ module _ {A : Type 0} (lane : A → ℕ) (steps_at : ℕ → List ℕ) (x : A) w
   one_sum = ap (λ f. sum_by f (range_with_len 0 64)) (fun_ext one_lane)
 
   -- a frame alone has the first step of its lane
-  pub concave_one : lane x < 64 → concave lane steps_at (x ∷ []) ≡ get_or (steps_at (lane x)) 0 0
+  pub concave_one : lane x < 64 → concave lane steps_at (x ∷ []) ≡ slice_index (steps_at (lane x)) 0
   unfolding first
   concave_one l = one_sum ∙ sum_one first (lane x) 0 64 (omega arith) (omega arith)
 
@@ -129,7 +129,7 @@ module _ {A : Type 0} (lane : A → ℕ) (steps_at : ℕ → List ℕ) (x : A) w
   concave_added after s here other = adds_below (λ l. of_lane lane steps_at l (x ∷ s)) (λ l. of_lane lane after l s) (λ l. of_lane lane steps_at l (x ∷ [])) 64 each
     where
       n : ℕ → ℕ
-      n l = count_by (λ y. eqb (lane y) l) s
+      n l = count_by (λ y. lane y == l) s
 
       each : (l : ℕ) → l < 64 → of_lane lane steps_at l (x ∷ s) ≡ of_lane lane after l s + of_lane lane steps_at l (x ∷ [])
       each l k =
@@ -150,24 +150,24 @@ module _ {A : Type 0} (lane : A → ℕ) (steps_at : ℕ → List ℕ) (x : A) w
 
 module _ (counts steps : List ℕ) where
   -- the next step of lane l
-  pub next_step : (l : ℕ) → get_or counts l 0 < 8 → get_or (steps_left counts steps l) 0 0 ≡ get_or steps (8 * l + get_or counts l 0) 0
+  pub next_step : (l : ℕ) → slice_index counts l < 8 → slice_index (steps_left counts steps l) 0 ≡ slice_index steps (8 * l + slice_index counts l)
   next_step l h =
       let c = get_or counts l 0 in
       let same : 8 * l + (c + 0) ≡ 8 * l + c = omega arith in
       get_or-drop c (steps_of steps l) 0 0 ∙ get_or-take 8 (drop (8 * l) steps) (c + 0) 0 (omega arith) ∙ get_or-drop (8 * l) steps (c + 0) 0 ∙ ap (λ i. get_or steps i 0) same
 
   -- none is left
-  pub no_step : (l : ℕ) → 8 ≤ get_or counts l 0 → get_or (steps_left counts steps l) 0 0 ≡ 0
+  pub no_step : (l : ℕ) → 8 ≤ slice_index counts l → slice_index (steps_left counts steps l) 0 ≡ 0
   no_step l h = get_or_past (steps_left counts steps l) 0 0 (omega (arith, length-drop (get_or counts l 0) (steps_of steps l), length-take 8 (drop (8 * l) steps)))
 
   -- one frame more of lane k takes its next step; eight are all that count
-  pub count_here : (k n l : ℕ) → k < length counts → n ≡ min 8 (get_or counts k 0 + 1) → k ≡ l → steps_left (set counts k n) steps l ≡ drop 1 (steps_left counts steps l)
+  pub count_here : (k n l : ℕ) → k < length counts → n ≡ min 8 (slice_index counts k + 1) → k ≡ l → steps_left (set counts k n) steps l ≡ drop 1 (steps_left counts steps l)
   count_here k n l m up e = ap (λ i. steps_left (set counts k n) steps i) (sym e) ∙ ap (λ c. drop c (steps_of steps k)) (get_or-set_same counts k n 0 m ∙ up) ∙ ⊎_elim few full (cases_lt (get_or counts k 0) 8) ∙ ap (λ i. drop 1 (steps_left counts steps i)) e
     where
-      few : get_or counts k 0 < 8 → drop (min 8 (get_or counts k 0 + 1)) (steps_of steps k) ≡ drop 1 (steps_left counts steps k)
+      few : slice_index counts k < 8 → drop (min 8 (slice_index counts k + 1)) (steps_of steps k) ≡ drop 1 (steps_left counts steps k)
       few h = let same : min 8 (get_or counts k 0 + 1) ≡ get_or counts k 0 + 1 = omega arith in ap (λ c. drop c (steps_of steps k)) same ∙ sym (drop-drop 1 (get_or counts k 0) (steps_of steps k))
 
-      full : 8 ≤ get_or counts k 0 → drop (min 8 (get_or counts k 0 + 1)) (steps_of steps k) ≡ drop 1 (steps_left counts steps k)
+      full : 8 ≤ slice_index counts k → drop (min 8 (slice_index counts k + 1)) (steps_of steps k) ≡ drop 1 (steps_left counts steps k)
       full h =
           let short = length-take 8 (drop (8 * k) steps) in
           drop_all (min 8 (get_or counts k 0 + 1)) (steps_of steps k) (omega (arith, short)) ∙ sym (drop_all 1 (steps_left counts steps k) (omega (arith, short, length-drop (get_or counts k 0) (steps_of steps k))))

@@ -1,15 +1,11 @@
 -- The value of a bag of frames, by kind. Assumes nothing.
-use Rattle.std.specs.Prelude.{ℕ, suc, ◌+◌, ◌-◌, ◌*◌, ◌/◌, ◌%◌, ◌^◌, ◌≤◌, min, max, Bool, false, ◌||◌, List, [], ◌∷◌, ◌++◌, map, length, take, drop, sum_by, sum, count_by, if◌then◌else◌, ◌==◌, nat_eq, slice_index}
-use Rattle.std.specs.List.{range_with_len}
+use Rattle.std.specs.Prelude.{ℕ, suc, ◌+◌, ◌-◌, ◌*◌, ◌≤◌, min, max, Bool, List, [], ◌∷◌, ◌++◌, map, length, take, drop, sum_by, sum, count_by, if◌then◌else◌, ◌==◌, nat_eq, slice_index}
+use Rattle.std.specs.Int.{bit_at}
+use Rattle.std.specs.List.{list_any, range_with_len}
 
 -- what fits 32 bits
 abbrev pub Bounded : {A : Type 0} → (List A → ℕ) → Type 0
 Bounded {A} f = (s : List A) → f s ≤ 4294967295
-
--- some frame passes p
-abbrev pub some : {A : Type 0} → (A → Bool) → List A → Bool
-some p [] = false
-some p (x ∷ s) = p x || some p s
 
 -- the greatest of the numbers v; 0 of no frame
 abbrev pub greatest : {A : Type 0} → (A → ℕ) → List A → ℕ
@@ -18,11 +14,11 @@ greatest v (x ∷ s) = max (v x) (greatest v s)
 
 -- class i is in the set m, whose bit i is then set
 abbrev pub shows : ℕ → ℕ → Bool
-shows m i = m / 2 ^ i % 2 == 1
+shows m i = bit_at m i == 1
 
 -- the weight of class i, once some frame shows it
 abbrev pub of_class : {A : Type 0} → (A → ℕ) → List ℕ → ℕ → List A → ℕ
-of_class marks weights i s = if some (λ x. shows (marks x) i) s then slice_index weights i else 0
+of_class marks weights i s = if list_any (λ x. shows (marks x) i) s then slice_index weights i else 0
 
 -- the weights of the classes that some frame shows
 unfoldable pub coverage : {A : Type 0} → (A → ℕ) → List ℕ → List A → ℕ

@@ -5,8 +5,8 @@ ghost use Rattle.kinds.proofs.Lanes.{laminar_matroid, parents_from};
 ghost use Rattle.frames.proofs.Equality.{same-frames};
 ghost use Rattle.laminar.specs.Trees.{laminar_fault};
 
-use crate::tree::{BOXES, LANES, check_tree};
-use frames::frame::Frame;
+use crate::tree::{BOXES, check_tree};
+use frames::frame::{Frame, LANES};
 use frames::setting::{SettingFault, low_bytes};
 use matroids::matroid::Matroid;
 use matroids::room::{Room, takes_chosen};
@@ -16,10 +16,10 @@ use matroids::room::{Room, takes_chosen};
 #[derive(Drop)]
 pub struct LaminarMatroid {
     // apart from the parents, as each question begins with a copy of the caps alone
-    caps: [u8; 96],
-    // 255 for none: the definitions and each clause speak of the settings' numbers, and an Option would be turned back into
-    // 255 in each of them
-    parents: [u8; 96],
+    caps: [u8; BOXES],
+    // numbers, as there is no heap for a Box; 255 for none: the definitions and each clause speak of the settings' numbers,
+    // and an Option would be turned back into 255 in each of them
+    parents: [u8; BOXES],
     ghost count: { length caps ≡ 96 },
     ghost paired: { length parents ≡ 96 },
     ghost limit: { (i : ℕ) → slice_index caps i ≤ 48 },
@@ -27,7 +27,8 @@ pub struct LaminarMatroid {
 }
 
 impl LaminarMatroid {
-    // 96 caps, each at most 48, and 96 parents, each 255 or a number from 64 to 95 above its box's own.
+    // 96 caps, each at most 48, and 96 parents, each 255 or a number from 64 to 95 above its box's own. The two lists
+    // stand apart, as C passes them.
     pub fn new(caps: &[u32], parents: &[u32]) -> Result<LaminarMatroid, SettingFault>
         ensures fault { result_err result ≡ laminar_fault caps.now parents.now }
         ensures accepted { IfOk result (λ m. (m.caps ≡ caps.now) × (m.parents ≡ parents.now)) }
@@ -39,7 +40,7 @@ impl LaminarMatroid {
         })
     }
 
-    // Another tree. Settings that are refused leave the tree that was there.
+    // Another tree. Settings that are refused leave the tree that was there. Each kind's own: see `Matroid`.
     pub fn set(&mut self, caps: &[u32], parents: &[u32]) -> Result<(), SettingFault>
         ensures fault { result_err result ≡ laminar_fault caps.now parents.now }
         ensures after { MatchResult result (λ _. (self.new.caps ≡ caps.now) × (self.new.parents ≡ parents.now)) (λ _. self.new ≡ self.old) }
@@ -67,7 +68,7 @@ impl Matroid for LaminarMatroid {
 #[derive(Drop)]
 struct BoxesLeft<'a> {
     tree: &'a LaminarMatroid,
-    left: [u8; 96],
+    left: [u8; BOXES],
     ghost count: { length left ≡ 96 },
 }
 

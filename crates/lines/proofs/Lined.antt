@@ -16,7 +16,6 @@ use Rattle.records.specs.declared.key.Key.{Key}
 use Rattle.records.specs.declared.key.Key.TheVariants.{Number, Marks, Look, Lane, Tail, Head, Side}
 use Rattle.records.specs.declared.line.Line.{Line}
 use Rattle.records.proofs.Keys.{front_common}
-use Rattle.records.proofs.Results.{apart}
 use Rattle.records.proofs.Feeds.{feed_splits}
 use Rattle.records.proofs.Roundtrip.{line_shown, read_line_shown}
 use Rattle.records.proofs.LineCases.{no_key, key_there, no_end, end_there, no_form, too_high, all_well}
@@ -141,4 +140,4 @@ line_means k text at number start (Ok l) p =
     let h = line_shown k (drop at text) p.0 (drop (behind (digits_of l)) text) p.1.reads in
     (p.0, p.1.number, h.0, h.1)
 line_means k text at number start (Err f) p =
-    λ v rest low e. apart (read_line k (drop at text)) (v, rest) p.0 (ap (read_line k) e ∙ read_line_shown k v rest low) p.1
+    λ v rest low e. cc (ap (read_line k) e ∙ read_line_shown k v rest low, p.1)

@@ -67,6 +67,3 @@ pub record Valued (k : Key) (text : List ℕ) (at v next : ℕ) : Type 0 where
   pub range : v ≤ highest k
   pub grows : at ≤ next
   pub within : next ≤ length text
-
-abbrev pub ValueRead : Key → List ℕ → ℕ → ℕ → ℕ → Result (ℕ × ℕ) LineFault → Type 0
-ValueRead k text at number start r = results.MatchResult r (λ p. Valued k text at p.0 p.1) (λ f. Unread k text at number start f)

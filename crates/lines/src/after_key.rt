@@ -4,7 +4,7 @@ ghost use Rattle.lines.specs.Lines.{Begun};
 use records::key::Key;
 
 // What follows the key due at the front of `s`, if it is there.
-// Slice patterns are a form that was asked for, so the keys stand here byte by byte, and `Key::bytes` is not used.
+// A rule of the project: slice patterns, so the keys stand here byte by byte, and not as `Key::bytes`.
 pub(crate) fn after_key(key: Key, s: &[u8]) -> Option<&[u8]>
     ensures { Begun (key_bytes key) s.now result }
 {

@@ -2,7 +2,8 @@ ghost use Rattle.std.specs.Prelude.{◌≡◌, ℕ, ◌≤◌, ◌<◌, length, 
 ghost use Rattle.lines.specs.Lines.{Numbered};
 ghost use Rattle.records.specs.Reading.{digit, digits_in, shortest, sixteen};
 
-// The number that shortest decimal digits write.
+// The number that shortest decimal digits write. That they are at most 16 is said of each list of bytes, since a struct
+// round one would be made for a call and taken apart in it.
 pub(crate) fn decimal(bytes: &[u8]) -> Option<u64>
     requires { length bytes.now ≤ 16 }
     ensures { Numbered (shortest bytes.now) 10 bytes.now result }

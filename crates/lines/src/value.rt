@@ -2,6 +2,7 @@ ghost use Rattle.std.specs.Prelude.{ℕ, ◌≤◌, length};
 ghost use Rattle.lines.specs.Lines.{Taken, Judged};
 
 use crate::number::{decimal, hexadecimal};
+use frames::frame::LANES;
 use records::digits::Digits;
 use records::key::Key;
 use records::line::Line;
@@ -34,11 +35,12 @@ pub(crate) fn judge(line: Line<'_>, spot: Spot) -> Result<Line<'_>, LineFault>
 {
     let number = line.digits().number;
     let over = Err(LineFault::Over(spot));
+    // a rule of the project: one match on the kind of line, with guards for the form and the range
     match line {
         _ if number.is_none() => Err(LineFault::BadForm(spot)),
         Line::Number(_) if number > Some(4_294_967_295) => over,
         Line::Look(_) | Line::Tail(_) | Line::Head(_) if number > Some(255) => over,
-        Line::Lane(_) if number > Some(63) => over,
+        Line::Lane(_) if number >= Some(LANES as u64) => over,
         Line::Side(_) if number > Some(1) => over,
         _ => Ok(line),
     }

@@ -21,8 +21,8 @@ pub trait Room: Drop {
 pub fn takes_chosen<R: Room>(mut room: R, frames: &[Frame], places: u64) -> bool
     ensures { result ≡ R.admits room (chosen frames.now places) }
 {
-    // the lowest bit of `rest` is the place of x; shifting `places` by an index would have to be proved in range past
-    // place 63
+    // the lowest bit of `rest` is the place of x; a shift of `places` by an index would be no plainer: the list would have
+    // to be cut to 64 first
     let mut rest = places;
     for x in frames {
         if rest % 2 == 1 && !room.takes(x) {

@@ -35,7 +35,7 @@ impl Coverage {
         })
     }
 
-    // Other weights, as if newly made. Weights that are refused leave all as it was.
+    // Other weights, as if newly made. Weights that are refused leave all as it was. Each kind's own: see `Objective`.
     pub fn set(&mut self, weights: &[u32]) -> Result<(), SettingFault>
         ensures fault { result_err result ≡ numbers_fault 64 67108863 weights.now }
         ensures after { MatchResult result (λ _. (self.new.weights ≡ weights.now) × (self.new.covered ≡ 0)) (λ _. self.new ≡ self.old) }

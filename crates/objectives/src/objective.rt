@@ -5,7 +5,8 @@ ghost use Rattle.objectives.specs.Meanings.{ObjectiveLaws, Added, Reset};
 use frames::frame::Frame;
 
 // What a set of frames is worth: a monotone submodular function of it, never above 4,294,967,295. `new` and `set` are each
-// kind's own, since the settings differ from kind to kind in number and type.
+// kind's own, since the settings differ from kind to kind in number and type. The clauses of a kind read its fields: the
+// value of a model would be the same fields, without the ghost fields that `laws` needs of some.
 pub trait Objective {
     // what a list of frames is worth; the settings alone decide it
     ghost value: { Self → List FrameOf → ℕ };

@@ -30,7 +30,8 @@ impl<R> Truncation<R> {
         Ok(Truncation { limit: k, below })
     }
 
-    // Another limit over the same matroid. A limit that is refused leaves the one that was there.
+    // Another limit over the same matroid. A limit that is refused leaves the one that was there. In place, since what is
+    // below stays.
     pub fn set(&mut self, k: u32) -> Result<(), SettingFault>
         ensures fault { result_err result ≡ numbers_fault 1 48 (k ∷ []) }
         ensures after { MatchResult result (λ _. (self.new.limit ≡ k) × (self.new.below ≡ self.old.below)) (λ _. self.new ≡ self.old) }

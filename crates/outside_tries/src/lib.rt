@@ -11,6 +11,7 @@ mod tests {
     const DIGEST: &[u8] =
         b"size=4\nkept=3\ntook=3\nseen=4\ngain=3\ntold=3\nplace=0\nworth=1\nframe=7\nmarks=0000000000000000\nlook=0\nlane=3\ntail=0\nhead=0\nside=1\nplace=1\nworth=1\nframe=1\nmarks=0000000000000003\nlook=0\nlane=0\ntail=0\nhead=0\nside=0\nplace=2\nworth=1\nframe=7\nmarks=0000000000000000\nlook=0\nlane=3\ntail=0\nhead=0\nside=1\n";
 
+    // as in `cases_run`: the tests of each crate have their own
     const RECORD: &[u8] =
         b"frame=1\nmarks=0000000000000003\nlook=0\nlane=0\ntail=0\nhead=0\nside=0\n";
 

@@ -4,6 +4,9 @@ use Rattle.frames.specs.Frames.{InRange}
 use Rattle.frames.specs.declared.frame.Frame.{Frame}
 use Rattle.records.specs.Format.{shown}
 use Rattle.records.specs.Reading.{Wrong, read_record, fault_at}
+use Rattle.records.specs.declared.key.Key.{Key}
+use Rattle.lines.specs.Lines.{Valued}
+use Rattle.parsing.specs.declared.read_record.Lines.{Lines}
 use Rattle.faults.specs.declared.fault.RecordFault.{RecordFault}
 use Rattle.faults.specs.declared.fault.RecordFault.TheVariants.{Line}
 
@@ -24,3 +27,9 @@ RecordRead text at number r = MatchResult r (λ p. Stands text at p.0 p.1) (λ f
 abbrev pub RecordMeans : List ℕ → ℕ → Result (Frame × ℕ) RecordFault → Type 0
 RecordMeans text at r =
     MatchResult r (λ p. InRange p.0 × (drop at text ≡ shown p.0 ++ drop p.1 text)) (λ _. (x : Frame) (rest : List ℕ) → InRange x → drop at text ≢ shown x ++ rest)
+
+-- the next line of l is that of k and has the value v, and m stands behind it
+pub record LinePassed (k : Key) (l : Lines) (v : ℕ) (m : Lines) : Type 0 where
+  pub text : m.text ≡ l.text
+  pub place : m.place ≡ l.place
+  pub valued : Valued k l.text.now l.at v m.at

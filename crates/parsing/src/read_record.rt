@@ -1,6 +1,7 @@
 ghost use Rattle.std.specs.Prelude.{ℕ};
-ghost use Rattle.lines.specs.Lines.{ValueRead};
-ghost use Rattle.parsing.specs.Records.{RecordRead, RecordMeans};
+ghost use Rattle.std.specs.Result.{MatchResult};
+ghost use Rattle.lines.specs.Lines.{Unread};
+ghost use Rattle.parsing.specs.Records.{LinePassed, RecordRead, RecordMeans};
 
 use faults::fault::RecordFault;
 use frames::frame::Frame;
@@ -15,30 +16,35 @@ pub fn read_record(text: &[u8], at: usize, record: usize) -> Result<(Frame, usiz
     ensures means { RecordMeans text.now at result }
 {
     let place = Place { record, start: at };
-    let (number, next) = value_at(text, at, Key::Number, place)?;
-    let (marks, next) = value_at(text, next, Key::Marks, place)?;
-    let (look, next) = value_at(text, next, Key::Look, place)?;
-    let (lane, next) = value_at(text, next, Key::Lane, place)?;
-    let (tail, next) = value_at(text, next, Key::Tail, place)?;
-    let (head, next) = value_at(text, next, Key::Head, place)?;
-    let (side, next) = value_at(text, next, Key::Side, place)?;
+    let mut lines = Lines { text, at, place };
     let frame = Frame {
-        number: number as u32,
-        marks,
-        look: look as u8,
-        lane: lane as u8,
-        tail: tail as u8,
-        head: head as u8,
-        side: side as u8,
+        number: lines.value(Key::Number)? as u32,
+        marks: lines.value(Key::Marks)?,
+        look: lines.value(Key::Look)? as u8,
+        lane: lines.value(Key::Lane)? as u8,
+        tail: lines.value(Key::Tail)? as u8,
+        head: lines.value(Key::Head)? as u8,
+        side: lines.value(Key::Side)? as u8,
     };
-    Ok((frame, next))
+    Ok((frame, lines.at))
 }
 
-// The value of the line at byte `at`, where `key` is due, and the byte behind the line.
-// The number is never none: only where a value is written as its kind is, the line is read.
-fn value_at(text: &[u8], at: usize, key: Key, place: Place) -> Result<(u64, usize), LineFault>
-    ensures { ValueRead key text.now at place.«record» place.start result }
-{
-    let digits = read_line(text, at, key, place)?.digits();
-    Ok((digits.number.unwrap(), digits.at + digits.bytes.len() + 1))
+// The lines of the record at `place`, read in turn: the next one starts at byte `at` of the text.
+#[derive(Drop)]
+struct Lines<'a> {
+    text: &'a [u8],
+    at: usize,
+    place: Place,
+}
+
+impl Lines<'_> {
+    // The value of the next line, where `key` is due.
+    // The number is never none: only where a value is written as its kind is, the line is read.
+    fn value(&mut self, key: Key) -> Result<u64, LineFault>
+        ensures { MatchResult result (λ v. LinePassed key self.old v self.new) (λ f. Unread key self.old.text.now self.old.at self.old.place.«record» self.old.place.start f) }
+    {
+        let digits = read_line(self.text, self.at, key, self.place)?.digits();
+        self.at = digits.at + digits.bytes.len() + 1;
+        Ok(digits.number.unwrap())
+    }
 }

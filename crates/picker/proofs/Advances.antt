@@ -1,9 +1,8 @@
 -- From one frame's outcome to the replay's step. Assumes nothing.
-use Rattle.std.proofs.Common.{◌≡◌, ℕ, ◌+◌, ◌-◌, List, [], ◌∷◌, ◌++◌, length, sym, ap, ◌∙◌, subst, arith}
+use Rattle.std.proofs.Common.{◌≡◌, ℕ, ◌+◌, ◌-◌, List, [], ◌∷◌, ◌++◌, length, sym, ap, ◌∙◌, arith}
 use Rattle.theory.specs.Replay.{State}
 use Rattle.theory.specs.Promise.{told}
 use Rattle.frames.specs.declared.frame.Frame.{Frame}
-use Rattle.objectives.specs.Meanings.{Added}
 use Rattle.exchange.specs.declared.outcome.Outcome.{Outcome}
 use Rattle.exchange.specs.Outcomes.{outcome_of}
 use Rattle.kept.specs.Tables.{held}
@@ -77,5 +76,6 @@ module _ {W R : Type 0} (O : Objective W) (M : Matroid R) (p q : Picker W R) (x 
   -- an accepted frame is the first that is accepted
   pub advance_accepted : (o : Outcome) (g : ℕ) (es : List (Frame × ℕ)) (m : Picker W R) → o ≡ verdict O M p x → g ≡ O.residual p.objective (x ∷ []) → settled (begun p) x o ≡ record { kept = es; accepted = x ∷ [] } → Seen p m → Accepting O x g es m q → Advanced O M p (x ∷ []) q
   advance_accepted o g es m e eg is k h =
-      let added = subst (λ w. Added O.value O.residual w x q.objective) k.objective h.objective in
-      leaves (record { kept = es; accepted = x ∷ [] }) (stepped o e ∙ is) h.kept (omega (arith, h.took, k.took)) (h.seen ∙ k.seen) h.gain (omega (arith, h.tells, k.tells, none)) (h.size ∙ k.size) (h.matroid ∙ k.matroid) added.whole added.left
+      leaves (record { kept = es; accepted = x ∷ [] }) (stepped o e ∙ is) h.kept (omega (arith, h.took, k.took)) (h.seen ∙ k.seen) h.gain (omega (arith, h.tells, k.tells, none)) (h.settings.size ∙ k.size) (h.settings.matroid ∙ k.matroid)
+      (λ s. h.settings.value s ∙ ap (λ w. O.value w s) k.objective)
+      (λ s. h.left s ∙ ap (λ w. O.residual w (x ∷ s) - O.residual w (x ∷ [])) k.objective)

@@ -6,8 +6,7 @@ use Rattle.std.proofs.lemmas.Bool.{le-leb, leb-true, lt-ltb, and_from, and_parts
 use Rattle.frames.specs.declared.frame.Frame.{Frame}
 use Rattle.frames.specs.declared.entry.Entry.{Entry}
 use Rattle.frames.specs.Frames.{InRange, in_range}
-use Rattle.kept.specs.declared.table.KeptTable.{KeptTable}
-use Rattle.kept.specs.Tables.{entries_of, pairs, held, no_frame, gain_at}
+use Rattle.kept.specs.Tables.{held, no_frame, gain_at}
 use Rattle.picker.specs.Entries.{sound, total}
 
 abbrev pub entry : Frame → ℕ → Entry
@@ -33,16 +32,16 @@ module _ (x : Frame) (g : ℕ) (r : InRange x) (l : g ≤ 4294967295) where
 as_pair : Entry → Frame × ℕ
 as_pair e = (e.frame, e.gain)
 
-module _ (t u : KeptTable) (x : Frame) (g : ℕ) where
-  pub held_push : length (held t) < 48 → entries_of u ≡ cond (ltb (length (entries_of t)) 48) (entries_of t ++ entry x g ∷ []) (entries_of t) → held u ≡ held t ++ ((x, g) ∷ [])
+module _ (es fs : List Entry) (x : Frame) (g : ℕ) where
+  pub held_push : length (held es) < 48 → fs ≡ cond (ltb (length es) 48) (es ++ entry x g ∷ []) es → held fs ≡ held es ++ ((x, g) ∷ [])
   unfolding as_pair
   held_push l h =
-      let few : length (entries_of t) < 48 = omega (arith, length-map (entries_of t) as_pair) in
-      ap (map as_pair) (h ∙ cond-true _ _ _ (lt-ltb _ _ few)) ∙ map_push as_pair (entries_of t) (entry x g)
+      let few : length es < 48 = omega (arith, length-map es as_pair) in
+      ap (map as_pair) (h ∙ cond-true _ _ _ (lt-ltb _ _ few)) ∙ map_push as_pair es (entry x g)
 
-  pub held-set : (p : ℕ) → entries_of u ≡ set (entries_of t) p (entry x g) → held u ≡ set (held t) p (x, g)
+  pub held-set : (p : ℕ) → fs ≡ set es p (entry x g) → held fs ≡ set (held es) p (x, g)
   unfolding as_pair
-  held-set p h = ap (map as_pair) h ∙ map-set as_pair (entries_of t) p (entry x g)
+  held-set p h = ap (map as_pair) h ∙ map-set as_pair es p (entry x g)
 
 module _ (es : List (Frame × ℕ)) (x : Frame) (g : ℕ) where
   pub total_push : total (es ++ ((x, g) ∷ [])) ≡ total es + g
@@ -74,12 +73,12 @@ in_range_lem x h =
     }
 
 -- each kept entry is a frame that a record can hold, with a gain of 32 bits
-pub sound_at : (es : List Entry) (i : ℕ) (d : Entry) → sound (pairs es) ≡ true → i < length es → InRange (get_or es i d).frame × ((get_or es i d).gain ≤ 4294967295)
+pub sound_at : (es : List Entry) (i : ℕ) (d : Entry) → sound (held es) ≡ true → i < length es → InRange (get_or es i d).frame × ((get_or es i d).gain ≤ 4294967295)
 sound_at [] i d h l = absurd (omega arith)
 sound_at (e ∷ es) zero d h l =
-    let two = and_parts (in_range e.frame && leb e.gain 4294967295) (sound (pairs es)) h in
+    let two = and_parts (in_range e.frame && leb e.gain 4294967295) (sound (held es)) h in
     let here = and_parts (in_range e.frame) (leb e.gain 4294967295) two.0 in
     (in_range_lem e.frame here.0, leb-true e.gain 4294967295 here.1)
 sound_at (e ∷ es) (suc i) d h l =
-    let two = and_parts (in_range e.frame && leb e.gain 4294967295) (sound (pairs es)) h in
+    let two = and_parts (in_range e.frame && leb e.gain 4294967295) (sound (held es)) h in
     sound_at es i d two.1 (omega arith)

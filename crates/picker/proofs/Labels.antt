@@ -21,7 +21,7 @@ use Rattle.records.specs.Reading.{frames_in}
 use Rattle.picker.specs.declared.picker.Picker.{Picker}
 use Rattle.picker.specs.Entries.{total}
 use Rattle.picker.specs.Calls.{Called, offering, reading, clearing, arrive, arrive_by, arrivals}
-use Rattle.picker.specs.Label.{nothing, Met, Labelled, Bounded, Promises}
+use Rattle.picker.specs.Met.{nothing, Met, Labelled, Bounded, Promises}
 use Rattle.picker.specs.Offers.{After, Advanced, Answered, Offered, Emptied, refusal_of}
 use Rattle.picker.specs.Texts.{taken_in, text_answer, TextOffered}
 use Rattle.picker.proofs.Onward.{after_more}
@@ -86,7 +86,7 @@ module _ {W R : Type 0} (O : Objective W) (M : Matroid R) where
 
   pub met_clear : (h : List Called) (p q : Picker W R) → Emptied O p q → Met O M (h ++ clearing ∷ []) q
   met_clear h p q o =
-      met_none (h ++ clearing ∷ []) q (arrivals_push h clearing) o.kept o.took o.seen o.gain o.tells (O.laws q.objective).whole.submodular.nothing (λ s. o.left s ∙ sym (o.whole s))
+      met_none (h ++ clearing ∷ []) q (arrivals_push h clearing) o.kept o.took o.seen o.gain o.tells (O.laws q.objective).whole.submodular.nothing (λ s. o.left s ∙ sym (o.settings.value s))
 
   module _ (h : List Called) (p : Picker W R) (k : Met O M h p) where
     st : State Frame

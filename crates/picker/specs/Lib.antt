@@ -1,7 +1,9 @@
 pub mod Entries
+pub mod Arrivals
 pub mod Offers
 pub mod Settling
 pub mod Counted
 pub mod Texts
 pub mod Calls
 pub mod Label
+pub mod Met

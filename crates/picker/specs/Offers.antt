@@ -1,5 +1,5 @@
 -- What an offer answers, and what it makes of a picker. Assumes nothing.
-use Rattle.std.specs.Prelude.{◌≡◌, ℕ, ◌+◌, ◌-◌, Bool, if◌then◌else◌, ◌||◌, List, [], ◌∷◌, ◌++◌, length, Some, None, Ok, Err, fold, Option, Result, ◌==◌, nat_lt}
+use Rattle.std.specs.Prelude.{◌≡◌, ℕ, ◌+◌, ◌-◌, Bool, if◌then◌else◌, List, [], ◌∷◌, ◌++◌, length, Some, None, Ok, Err, fold, Option, Result, ◌==◌}
 use Rattle.theory.specs.Replay.{State, step}
 use Rattle.theory.specs.Promise.{told}
 use Rattle.frames.specs.declared.frame.Frame.{Frame}
@@ -9,13 +9,14 @@ use Rattle.exchange.specs.declared.outcome.Outcome.{Outcome}
 use Rattle.exchange.specs.Outcomes.{outcome_of}
 use Rattle.kept.specs.Tables.{held}
 use Rattle.picker.specs.declared.picker.Picker.{Picker}
+use Rattle.picker.specs.Arrivals.{too_high}
 use Rattle.picker.specs.Entries.{total}
 use Rattle.objectives.specs.declared.objective.Objective.{Ghosts as Objective}
 use Rattle.matroids.specs.declared.matroid.Matroid.{Ghosts as Matroid}
 
 -- why a frame is not taken in: its lane or side is too high, or the shift is full
 abbrev pub refusal_of : Frame → ℕ → Option Refusal
-refusal_of x seen = if nat_lt 63 x.lane || nat_lt 1 x.side then Some Over else (if seen == 1000000 then Some ShiftFull else None)
+refusal_of x seen = if too_high x then Some Over else (if seen == 1000000 then Some ShiftFull else None)
 
 -- what a picker keeps and has counted
 pub record Standing : Type 0 where
@@ -61,6 +62,12 @@ module _ {W R : Type 0} (O : Objective W) (M : Matroid R) where
   abbrev pub Offered : Picker W R → Frame → Result Outcome Refusal → Picker W R → Type 0
   Offered p x r q = Answered p x r q (refusal_of x p.seen)
 
+-- q was opened with the settings of p: the size, the matroid, and what a list of frames is worth
+pub record SameSettings {W R : Type 0} (O : Objective W) (p q : Picker W R) : Type 0 where
+  pub size : q.size.n ≡ p.size.n
+  pub matroid : q.matroid ≡ p.matroid
+  pub value : (s : List Frame) → O.value q.objective s ≡ O.value p.objective s
+
 -- r is a new picker: nothing is kept or counted, and all of the objective's value is to be gained
 pub record Opened {W R : Type 0} (O : Objective W) (n : ℕ) (objective : W) (matroid : R) (r : Picker W R) : Type 0 where
   pub kept : held r.table ≡ []
@@ -80,7 +87,5 @@ pub record Emptied {W R : Type 0} (O : Objective W) (p q : Picker W R) : Type 0 
   pub seen : q.seen ≡ 0
   pub gain : q.gain ≡ 0
   pub tells : q.told ≡ 0
-  pub size : q.size.n ≡ p.size.n
-  pub matroid : q.matroid ≡ p.matroid
-  pub whole : (s : List Frame) → O.value q.objective s ≡ O.value p.objective s
+  pub settings : SameSettings O p q
   pub left : (s : List Frame) → O.residual q.objective s ≡ O.value p.objective s

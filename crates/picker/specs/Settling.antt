@@ -1,10 +1,10 @@
 -- What a frame that is accepted makes of a picker. Assumes nothing.
-use Rattle.std.specs.Prelude.{◌≡◌, ℕ, ◌+◌, List}
+use Rattle.std.specs.Prelude.{◌≡◌, ℕ, ◌+◌, ◌-◌, List, [], ◌∷◌}
 use Rattle.frames.specs.declared.frame.Frame.{Frame}
-use Rattle.objectives.specs.Meanings.{Added}
 use Rattle.kept.specs.Tables.{held}
 use Rattle.picker.specs.declared.picker.Picker.{Picker}
 use Rattle.picker.specs.Entries.{total}
+use Rattle.picker.specs.Offers.{SameSettings}
 use Rattle.objectives.specs.declared.objective.Objective.{Ghosts as Objective}
 
 -- q is p after x was accepted with gain g, and es are kept then
@@ -14,6 +14,6 @@ pub record Accepting {W R : Type 0} (O : Objective W) (x : Frame) (g : ℕ) (es 
   pub seen : q.seen ≡ p.seen
   pub gain : q.gain ≡ total es
   pub tells : q.told ≡ p.told + g
-  pub size : q.size.n ≡ p.size.n
-  pub matroid : q.matroid ≡ p.matroid
-  pub objective : Added O.value O.residual p.objective x q.objective
+  pub settings : SameSettings O p q
+  -- what x gained is taken off every list with x
+  pub left : (s : List Frame) → O.residual q.objective s ≡ O.residual p.objective (x ∷ s) - O.residual p.objective (x ∷ [])

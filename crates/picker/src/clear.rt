@@ -1,5 +1,5 @@
 ghost use Rattle.picker.specs.Calls.{clearing};
-ghost use Rattle.picker.specs.Label.{Carries};
+ghost use Rattle.picker.specs.Met.{Carries};
 ghost use Rattle.picker.specs.Offers.{Emptied};
 
 use crate::picker::Picker;

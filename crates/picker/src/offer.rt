@@ -1,7 +1,7 @@
 ghost use Rattle.std.specs.Prelude.{◌≡◌, ◌<◌, List, [], ◌∷◌, ◌++◌, length, slice_set};
 ghost use Rattle.kept.specs.Tables.{held};
 ghost use Rattle.picker.specs.Calls.{offering};
-ghost use Rattle.picker.specs.Label.{Carries};
+ghost use Rattle.picker.specs.Met.{Carries};
 ghost use Rattle.picker.specs.Offers.{Offered, Advanced, verdict};
 ghost use Rattle.picker.specs.Settling.{Accepting};
 
@@ -83,12 +83,10 @@ impl<W: Objective, R: Matroid> Picker<W, R> {
         ensures step { Offered W.Objective R.Matroid self.old x result self.new }
         ensures carries { Carries W.Objective R.Matroid (offering x) self.old self.new }
     {
-        if x.lane > 63 || x.side > 1 {
-            return Err(Refusal::Over);
-        }
+        let arrival = Arrival::try_from(x)?;
         if self.is_full() {
             return Err(Refusal::ShiftFull);
         }
-        Ok(self.take_in(Arrival { frame: x }))
+        Ok(self.take_in(arrival))
     }
 }

@@ -1,5 +1,5 @@
 ghost use Rattle.std.specs.Prelude.{[]};
-ghost use Rattle.picker.specs.Label.{Met};
+ghost use Rattle.picker.specs.Met.{Met};
 ghost use Rattle.picker.specs.Offers.{Opened};
 
 use crate::picker::Picker;
@@ -9,7 +9,8 @@ use matroids::matroid::Matroid;
 use objectives::objective::Objective;
 
 impl<W: Objective, R: Matroid> Picker<W, R> {
-    // A picker that keeps nothing, over a reset objective. The three stand apart, as callers make them.
+    // A picker that keeps nothing, over a reset objective. The three stand apart: a struct of them would be taken apart at
+    // once.
     pub fn open(size: Size, mut objective: W, matroid: R) -> Picker<W, R>
         ensures opened { Opened W.Objective size.n objective matroid result }
         ensures met { Met W.Objective R.Matroid [] result }

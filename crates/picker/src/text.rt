@@ -1,5 +1,5 @@
 ghost use Rattle.picker.specs.Calls.{reading};
-ghost use Rattle.picker.specs.Label.{Carries};
+ghost use Rattle.picker.specs.Met.{Carries};
 ghost use Rattle.picker.specs.Texts.{TextOffered, RecordOffered};
 
 use crate::arrival::Arrival;
@@ -9,11 +9,12 @@ use matroids::matroid::Matroid;
 use objectives::objective::Objective;
 use reading::reader::Records;
 
-// The most bytes of a text that is looked into.
+// The most bytes of a text that is looked into; `digest` reads one byte more.
 const LONGEST_TEXT: usize = 65_536;
 
 impl<W: Objective, R: Matroid> Picker<W, R> {
-    // Takes in the frame of a record, unless the shift is full.
+    // Takes in the frame of a record, unless the shift is full. Record and start stay two numbers: a struct of them would be
+    // made for this one call, and taken apart at once (`lines::place::Place` is below what a picker stands on).
     fn take_record(
         &mut self,
         arrival: Arrival,

@@ -2,13 +2,14 @@
 
 ghost use Rattle.std.specs.Prelude.{◌≡◌, List};
 ghost use Rattle.frames.specs.declared.frame.Frame.{Frame as FrameOf};
-ghost use Rattle.piles.specs.Pile.{pile_value, pile_residual};
+ghost use Rattle.piles.specs.Pile.{pile_value};
 
 use composites::capped::Capped;
 use composites::sum::Sum;
 use concave::counts::ConcaveCounts;
 use facility::location::FacilityLocation;
 use objectives::coverage::Coverage;
+use objectives::objective::Objective;
 
 #[cfg(test)]
 mod matroid_tests;
@@ -20,9 +21,9 @@ mod tests;
 pub type Pile<'a> = Sum<Capped<FacilityLocation<'a>>, Sum<Coverage, ConcaveCounts>>;
 
 // Objectives three deep: facility location over a caller's table, under a cap, and coverage with concave counts.
-pub fn pile<'a>(table: &'a [u16], cap: u32, coverage: Coverage, counts: ConcaveCounts) -> Pile<'a>
-    ensures whole { (s : List FrameOf) → pile_value result.first.below.table.now result.first.cap result.second.first.weights result.second.second.steps s ≡ pile_value table.now cap coverage.weights counts.steps s }
-    ensures left { (s : List FrameOf) → pile_residual result.first.below.table.now result.first.below.best result.first.room result.second.first.weights result.second.first.covered result.second.second.steps result.second.second.counts result.second.room result.room s ≡ pile_value table.now cap coverage.weights counts.steps s }
+pub fn pile(table: &[u16], cap: u32, coverage: Coverage, counts: ConcaveCounts) -> Pile<'_>
+    ensures whole { (s : List FrameOf) → ⟦<Pile<'static> as Objective>⟧.value result s ≡ pile_value table.now cap (⟦<Coverage as Objective>⟧.value coverage) (⟦<ConcaveCounts as Objective>⟧.value counts) s }
+    ensures left { (s : List FrameOf) → ⟦<Pile<'static> as Objective>⟧.residual result s ≡ pile_value table.now cap (⟦<Coverage as Objective>⟧.value coverage) (⟦<ConcaveCounts as Objective>⟧.value counts) s }
 {
     let likeness = Capped::new(FacilityLocation::new(table), cap);
     Sum::new(likeness, Sum::new(coverage, counts))

@@ -8,7 +8,6 @@ use Rattle.parsing.specs.Records.{Refused}
 use Rattle.reading.specs.Texts.{NextRead, Next}
 use Rattle.faults.specs.declared.fault.RecordFault.{RecordFault}
 use Rattle.faults.specs.declared.fault.RecordFault.TheVariants.{Line}
-use Rattle.records.proofs.Results.{apart, same_ok, same_err}
 use Rattle.records.proofs.TextCases.{no_bytes}
 
 -- no record can be read at the end
@@ -26,17 +25,17 @@ next_by_text text at count at' count' (Ok (Some x)) h =
     record {
       ended = λ e. absurd (nothing_left (drop at text) x (drop at' text) e h.0.reads);
       read = λ y rest ok.
-          let e = same_ok (read_record (drop at text)) (x, drop at' text) (y, rest) h.0.reads ok in
+          let e : ◌≡◌ {A = Frame × List ℕ} (x, drop at' text) (y, rest) = cc (h.0.reads, ok) in
           let f = ap (λ (p : Frame × List ℕ). p.0) e in
           (ap (λ (z : Frame). Ok (Some z)) f, ap (λ (p : Frame × List ℕ). p.1) e, h.0.grows ∙ ap (λ (z : Frame). at + length (shown z)) f, h.1);
-      refused = λ w some e. absurd (apart (read_record (drop at text)) (x, drop at' text) w h.0.reads e);
+      refused = λ w some e. cc (h.0.reads, e);
     }
 next_by_text text at count at' count' (Err f) h =
     record {
       ended = λ e. absurd (h.0 e);
-      read = λ x rest ok. absurd (apart (read_record (drop at text)) (x, rest) h.1.0 ok h.1.1);
+      read = λ x rest ok. cc (ok, h.1.1);
       refused = λ w some e.
-          let v = same_err (read_record (drop at text)) h.1.0 w h.1.1 e in
+          let v : h.1.0 ≡ w = cc (h.1.1, e) in
           (ap Err (h.1.2 ∙ ap (λ (w : Wrong). Line (fault_at (count + 1) at w)) v), h.2, h.3);
     }
 

@@ -7,7 +7,6 @@ use Rattle.std.specs.List.{common_prefix_len}
 use Rattle.records.specs.Reading.{Due, digit, digits_in, before_feed, number_in, judged, read_value, read_due}
 use Rattle.records.proofs.Feeds.{feed_splits}
 use Rattle.records.proofs.Keys.{common_front, front_common}
-use Rattle.records.proofs.Results.{apart, same_ok}
 use Rattle.records.proofs.LineCases.{no_key, key_there, no_end, end_there, no_form, too_high, all_well}
 
 -- `write` writes the values of a line
@@ -60,13 +59,13 @@ module _ (d : Due) (write : ℕ → List ℕ) (w : Notation d write) where
       ⊎_elim
       (λ (f : d.formed ds ≡ true).
       ⊎_elim
-      (λ (h : d.highest < number_in d.base ds). absurd (apart (judged d ds rest) (v, rest') _ ok (too_high d ds rest f h)))
+      (λ (h : d.highest < number_in d.base ds). cc (ok, too_high d ds rest f h))
       (λ (h : number_in d.base ds ≤ d.highest).
-      let a = same_ok (judged d ds rest) (number_in d.base ds, rest) (v, rest') (all_well d ds rest f h) ok in
-      let e = ap (λ (p : ℕ × List ℕ). p.0) a in
-      (subst (λ (m : ℕ). m ≤ d.highest) e h, sym (w.unique ds f h) ∙ ap write e, ap (λ (p : ℕ × List ℕ). p.1) a))
+      let a : ◌≡◌ {A = ℕ × List ℕ} (number_in d.base ds, rest) (v, rest') = cc (ok, all_well d ds rest f h) in
+      let e = ap (λ p. p.0) a in
+      (omega arith, sym (w.unique ds f h) ∙ ap write e, ap (λ p. p.1) a))
       (cases_lt d.highest (number_in d.base ds)))
-      (λ (f : d.formed ds ≡ false). absurd (apart (judged d ds rest) (v, rest') _ ok (no_form d ds rest f)))
+      (λ (f : d.formed ds ≡ false). cc (ok, no_form d ds rest f))
       (cases_Bool (d.formed ds))
 
   value_written : (s : List ℕ) (v : ℕ) (rest : List ℕ) → read_value d s ≡ Ok (v, rest) → (v ≤ d.highest) × (s ≡ write v ++ (10 ∷ rest))
@@ -80,7 +79,7 @@ module _ (d : Due) (write : ℕ → List ℕ) (w : Notation d write) where
       let p = j.1 in
       let q = j.2 in
       (j.0, cc))
-      (λ (l : length window ≤ before_feed window). absurd (apart (read_value d s) (v, rest) _ ok (no_end d s (omega (arith, l, prefix_len-le-length (λ c. not (eqb c 10)) window)))))
+      (λ (l : length window ≤ before_feed window). cc (ok, no_end d s (omega (arith, l, prefix_len-le-length (λ c. not (eqb c 10)) window))))
       (cases_lt (before_feed window) (length window))
 
   -- what was read is what is written
@@ -90,5 +89,5 @@ module _ (d : Due) (write : ℕ → List ℕ) (w : Notation d write) where
       (λ (e : common_prefix_len eqb d.key s ≡ length d.key).
       let p = value_written (drop (length d.key) s) v rest (sym (key_there d s e) ∙ ok) in
       (p.0, front_common d.key s e ∙ ap (λ (t : List ℕ). d.key ++ t) p.1))
-      (λ (e : common_prefix_len eqb d.key s ≡ length d.key → ⊥). absurd (apart (read_due d s) (v, rest) _ ok (no_key d s (omega (arith, e, common_prefix_len-le eqb d.key s)))))
+      (λ (e : common_prefix_len eqb d.key s ≡ length d.key → ⊥). cc (ok, no_key d s (omega (arith, e, common_prefix_len-le eqb d.key s))))
       (cases_eq (common_prefix_len eqb d.key s) (length d.key))

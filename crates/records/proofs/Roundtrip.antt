@@ -10,7 +10,6 @@ use Rattle.records.proofs.Decimals.{decimals}
 use Rattle.records.proofs.Hexadecimals.{hexadecimals}
 use Rattle.records.proofs.Notation.{Notation, reads_written, written_reads}
 use Rattle.records.proofs.RecordCases.{seven_lines}
-use Rattle.records.proofs.Results.{same_ok}
 
 -- the line of a value, with the text behind it
 line_joined : (key value rest : List ℕ) → (key ++ (value ++ (10 ∷ []))) ++ rest ≡ key ++ (value ++ (10 ∷ rest))
@@ -77,7 +76,7 @@ read_shown x i rest =
 -- a line that lets the reading go on was read
 went_on : {X C : Type 0} (w : Amiss → Wrong) (r : Result (ℕ × List ℕ) Amiss) (f : ℕ → List ℕ → Result X Wrong) (x : X) → go_on w r f ≡ Ok x → ((v : ℕ) (rest : List ℕ) → r ≡ Ok (v, rest) → f v rest ≡ Ok x → C) → C
 went_on w (Ok p) f x ok go = go p.0 p.1 refl ok
-went_on w (Err a) f x ok go = let z : ◌≡◌ {A = ℕ} 0 1 = cc in absurd (omega arith)
+went_on w (Err a) f x ok go = cc
 
 -- seven lines that each begin what is left
 seven_fronts : (a b c d e f g s s₁ s₂ s₃ s₄ s₅ s₆ rest : List ℕ) → s ≡ a ++ s₁ → s₁ ≡ b ++ s₂ → s₂ ≡ c ++ s₃ → s₃ ≡ d ++ s₄ → s₄ ≡ e ++ s₅ → s₅ ≡ f ++ s₆ → s₆ ≡ g ++ rest → s ≡ (a ++ (b ++ (c ++ (d ++ (e ++ (f ++ (g ++ []))))))) ++ rest
@@ -105,5 +104,5 @@ record_shown s x rest ok =
     went_on _ (read_line Tail s₄) _ (x, rest) o₄ (λ e s₅ e₅ o₅.
     went_on _ (read_line Head s₅) _ (x, rest) o₅ (λ f s₆ e₆ o₆.
     went_on _ (read_line Side s₆) _ (x, rest) o₆ (λ g s₇ e₇ o₇.
-    subst (λ (y : Frame × List ℕ). InRange y.0 × (s ≡ shown y.0 ++ y.1)) (same_ok _ _ (x, rest) refl o₇)
+    subst (λ (y : Frame × List ℕ). InRange y.0 × (s ≡ shown y.0 ++ y.1)) (cc o₇)
     (lines_shown s s₁ s₂ s₃ s₄ s₅ s₆ s₇ a b c d e f g e₁ e₂ e₃ e₄ e₅ e₆ e₇))))))))

@@ -4,7 +4,7 @@ ghost use Rattle.records.specs.Of.{digits_of};
 use crate::digits::Digits;
 
 // A line whose key and line feed were found, with the bytes between them.
-// Seven kinds, and no key beside the digits: a line that was read as an enum of its kinds is a form that was asked for.
+// A rule of the project: one variant for each key, and no key beside the digits.
 #[derive(Clone, Copy)]
 pub enum Line<'a> {
     Number(Digits<'a>),

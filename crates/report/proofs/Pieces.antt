@@ -1,7 +1,7 @@
 -- Texts written one after another at the front of a buffer. Assumes nothing.
-use Rattle.std.proofs.Common.{◌≡◌, ℕ, ◌+◌, ◌-◌, ◌≤◌, List, [], ◌++◌, length, take, drop, sym, refl, ap, ◌∙◌, arith}
+use Rattle.std.proofs.Common.{◌≡◌, ℕ, ◌+◌, ◌-◌, ◌≤◌, List, ◌++◌, length, take, drop, sym, ap, ◌∙◌, arith}
 use borrow.Rule.Slice.PartMut.{put_mid}
-use Rattle.std.proofs.lemmas.List.{append_assoc, append-nil, length-append, length-drop, length-take-le, take_at, take_rest, drop_at, drop-drop, take-append-drop, drop_all}
+use Rattle.std.proofs.lemmas.List.{append_assoc, append-nil, length-append, length-drop, length-take-le, take_at, take_rest, drop_at, drop-drop, drop_all}
 use Rattle.records.specs.Sheets.{over}
 
 -- t behind s
@@ -14,18 +14,6 @@ pub record Left (whole rest : List ℕ) (at : ℕ) (out before : List ℕ) : Typ
   pub room : length whole ≤ length before
   pub left : at + length rest ≡ length whole
   pub same : take at out ++ over rest (drop at out) ≡ over whole before
-
-pub left_first : (s rest out xs : List ℕ) (n : ℕ) → length (s ++ rest) ≤ length xs → out ≡ over s xs → n ≡ length s → Left (s ++ rest) rest n out xs
-left_first s rest out xs n h e is =
-    let back = drop (length s) xs in
-    let fronts : take n out ≡ s = ap (take n) e ∙ take_at s back n (sym is) in
-    let backs : drop n out ≡ back = ap (drop n) e ∙ drop_at s back n (sym is) in
-    record {
-      long = omega (arith, ap length e, length-append s back, length-append s rest, length-drop (length s) xs);
-      room = h;
-      left = ap (λ k. k + length rest) is ∙ sym (length-append s rest);
-      same = simp (fronts, backs) (over_append s rest xs);
-    }
 
 -- the rest of the buffer has room for the next text
 pub left_room : (whole r t rest : List ℕ) (at : ℕ) (out before : List ℕ) → r ≡ t ++ rest → Left whole r at out before
@@ -69,15 +57,3 @@ left_more whole r t rest at n out part before e l p is =
           ∙ ap (λ zs. take at out ++ zs) (over_append t rest (drop at out) ∙ ap (λ zs. over zs (drop at out)) (sym e))
           ∙ l.same;
     }
-
-pub left_all : (whole r : List ℕ) (at : ℕ) (out before : List ℕ) → r ≡ [] → Left whole r at out before → (at ≡ length whole) × (out ≡ over whole before)
-left_all whole r at out before e l =
-    (omega (arith, ap length e), sym (take-append-drop at out) ∙ ap (λ t. take at out ++ over t (drop at out)) (sym e) ∙ l.same)
-
--- the last text
-pub left_last : (whole t : List ℕ) (at n : ℕ) (out part before : List ℕ) → Left whole t at out before
-    → part ≡ over t (take (length out - at) (drop at out)) → n ≡ length t
-    → (at + n ≡ length whole) × (put_mid at (length out - at) out part ≡ over whole before)
-left_last whole t at n out part before l p is =
-    left_all whole [] (at + n) (put_mid at (length out - at) out part) before refl
-    (left_more whole t t [] at n out part before (sym (append-nil t)) l p is)

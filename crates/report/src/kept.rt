@@ -14,6 +14,7 @@ impl Written for Places<'_> {
     ghost text = { λ places. places_from 0 places.entries.now };
 
     fn room_after(&self, room: usize) -> Option<usize> {
+        // no `try_fold`, as in `written.rt`
         let mut left = room;
         for (place, entry) in self.entries.iter().enumerate() {
             left = place_lines(place, entry).room_after(left)?;
@@ -22,6 +23,7 @@ impl Written for Places<'_> {
     }
 
     fn put(&self, out: &mut [u8]) -> usize {
+        // no `fold`, as in `written.rt`
         let mut at = 0;
         for (place, entry) in self.entries.iter().enumerate() {
             at += place_lines(place, entry).put(&mut out[at..]);

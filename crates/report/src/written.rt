@@ -63,6 +63,7 @@ impl<T: Written, const N: usize> Written for [T; N] {
     ghost text = { λ xs. flat_map T.text xs };
 
     fn room_after(&self, room: usize) -> Option<usize> {
+        // Tried as `try_fold`: the check did not get from its calls to the room that is left.
         let mut left = room;
         for x in self {
             left = x.room_after(left)?;
@@ -71,6 +72,7 @@ impl<T: Written, const N: usize> Written for [T; N] {
     }
 
     fn put(&self, out: &mut [u8]) -> usize {
+        // Tried as `fold`, and as a slice that shrinks: the check lost what was written.
         let mut at = 0;
         for x in self {
             at += x.put(&mut out[at..]);

@@ -1,5 +1,5 @@
 -- What a picker answers, by the calls that led to it. Assumes nothing.
-use Rattle.std.proofs.Common.{◌≡◌, ℕ, ◌-◌, Bool, true, false, cond, leb, List, [], ◌∷◌, map, length, Some, None, Ok, Err, MatchBool, Option, Result, sym, refl, ap, ◌∙◌, ap₂, arith}
+use Rattle.std.proofs.Common.{◌≡◌, ℕ, ◌-◌, Bool, true, false, cond, leb, List, [], ◌∷◌, map, length, Some, None, Ok, Err, MatchBool, Option, Result, sym, refl, ap, ◌∙◌, subst, ap₂, arith}
 use Rattle.theory.specs.Promise.{told}
 use Rattle.theory.specs.Replay.{gain_of}
 use Rattle.theory.proofs.Later.{parts_swap}
@@ -14,19 +14,20 @@ use Rattle.report.specs.declared.counts.Counts.{Counts}
 use Rattle.report.specs.Digest.{digest}
 use Rattle.exchange.specs.declared.outcome.Outcome.{Outcome}
 use Rattle.exchange.specs.Outcomes.{outcome_of}
-use Rattle.kept.specs.Tables.{entries_of, pairs}
+use Rattle.kept.specs.Tables.{held}
 use Rattle.picker.specs.declared.picker.Picker.{Picker}
 use Rattle.picker.specs.Calls.{Called, arrivals}
 use Rattle.picker.specs.Counted.{counts_of}
-use Rattle.picker.specs.Label.{Met}
-use Rattle.picker.specs.Offers.{Advanced, Answered, Offered, refusal_of, verdict}
+use Rattle.picker.specs.Met.{Met}
+use Rattle.picker.specs.Offers.{Advanced, Answered, Offered, SameSettings, refusal_of, verdict}
 use Rattle.picker.specs.Texts.{taken_in, text_answer, TextOffered}
+use Rattle.picker.proofs.Settings.{settings_same}
 use Rattle.runs.specs.Histories.{entry_of, after, counts_after, entries_after, digest_after}
 use Rattle.runs.specs.Runs.{offer_answer}
 use Rattle.objectives.specs.declared.objective.Objective.{Ghosts as Objective}
 use Rattle.matroids.specs.declared.matroid.Matroid.{Ghosts as Matroid}
 
-entries_back : (es : List Entry) → map entry_of (pairs es) ≡ es
+entries_back : (es : List Entry) → map entry_of (held es) ≡ es
 entries_back [] = refl
 entries_back (e ∷ es) = ap (λ (t : List Entry). e ∷ t) (entries_back es)
 
@@ -40,19 +41,19 @@ printed_answer t before behind r h = go (leb (length t) (length before)) h
 
 module _ {W R : Type 0} (O : Objective W) (M : Matroid R) where
   -- what an offer leaves as it was
-  pub offered_same : (p : Picker W R) (x : Frame) (r : Result Outcome Refusal) (q : Picker W R) → Offered O M p x r q → (q.size.n ≡ p.size.n) × (q.matroid ≡ p.matroid) × ((s : List Frame) → O.value q.objective s ≡ O.value p.objective s)
+  pub offered_same : (p : Picker W R) (x : Frame) (r : Result Outcome Refusal) (q : Picker W R) → Offered O M p x r q → SameSettings O p q
   offered_same p x r q o = go (refusal_of x p.seen) o
     where
-      go : (e : Option Refusal) → Answered O M p x r q e → (q.size.n ≡ p.size.n) × (q.matroid ≡ p.matroid) × ((s : List Frame) → O.value q.objective s ≡ O.value p.objective s)
-      go None a = (a.1.stands.size, a.1.stands.matroid, a.1.whole)
-      go (Some e) a = (ap (λ q. q.size.n) a.1, ap (λ q. q.matroid) a.1, λ s. ap (λ q. O.value q.objective s) a.1)
+      go : (e : Option Refusal) → Answered O M p x r q e → SameSettings O p q
+      go None a = record { size = a.1.stands.size; matroid = a.1.stands.matroid; value = a.1.whole }
+      go (Some e) a = subst (SameSettings O p) (sym a.1) (settings_same O p)
 
-  pub texted_same : (p : Picker W R) (t : List ℕ) (r : Result ℕ TextFault) (q : Picker W R) → TextOffered O M p t r q → (q.size.n ≡ p.size.n) × (q.matroid ≡ p.matroid) × ((s : List Frame) → O.value q.objective s ≡ O.value p.objective s)
+  pub texted_same : (p : Picker W R) (t : List ℕ) (r : Result ℕ TextFault) (q : Picker W R) → TextOffered O M p t r q → SameSettings O p q
   texted_same p t r q o = go (leb (length t) 65536) o
     where
-      go : (b : Bool) → MatchBool b ((r ≡ text_answer p.seen t) × Advanced O M p (taken_in p.seen t) q) ((r ≡ Err LongText) × (q ≡ p)) → (q.size.n ≡ p.size.n) × (q.matroid ≡ p.matroid) × ((s : List Frame) → O.value q.objective s ≡ O.value p.objective s)
-      go true a = (a.1.stands.size, a.1.stands.matroid, a.1.whole)
-      go false a = (ap (λ q. q.size.n) a.1, ap (λ q. q.matroid) a.1, λ s. ap (λ q. O.value q.objective s) a.1)
+      go : (b : Bool) → MatchBool b ((r ≡ text_answer p.seen t) × Advanced O M p (taken_in p.seen t) q) ((r ≡ Err LongText) × (q ≡ p)) → SameSettings O p q
+      go true a = record { size = a.1.stands.size; matroid = a.1.stands.matroid; value = a.1.whole }
+      go false a = subst (SameSettings O p) (sym a.1) (settings_same O p)
 
   module _ (h : List Called) (p : Picker W R) (k : Met O M h p) where
     seen_is : p.seen ≡ length (arrivals h)
@@ -79,8 +80,8 @@ module _ {W R : Type 0} (O : Objective W) (M : Matroid R) where
         go true a = a.0
         go false a = a.0
 
-    pub entries_is : entries_of p.table ≡ entries_after (O.value p.objective) (M.admits p.matroid) p.size.n h
-    entries_is = sym (entries_back (entries_of p.table)) ∙ ap (map entry_of) k.kept
+    pub entries_is : p.table ≡ entries_after (O.value p.objective) (M.admits p.matroid) p.size.n h
+    entries_is = sym (entries_back p.table) ∙ ap (map entry_of) k.kept
 
     pub counts_is : counts_of p ≡ counts_after (O.value p.objective) (M.admits p.matroid) p.size.n h
     counts_is =
@@ -93,6 +94,6 @@ module _ {W R : Type 0} (O : Objective W) (M : Matroid R) where
         ∙ ap₂ (λ t s. made (length st.kept) t s p.gain p.told) took-is seen_is
         ∙ ap₂ (λ g d. made (length st.kept) (length st.accepted) (length (arrivals h)) g d) k.gain told_is
 
-    pub digest_is : digest (counts_of p) (entries_of p.table) ≡ digest_after (O.value p.objective) (M.admits p.matroid) p.size.n h
+    pub digest_is : digest (counts_of p) p.table ≡ digest_after (O.value p.objective) (M.admits p.matroid) p.size.n h
     unfolding digest_after
     digest_is = ap₂ digest counts_is entries_is

@@ -4,7 +4,9 @@ use mathlib.Core.Path.{fun_ext}
 use Rattle.std.proofs.lemmas.List.{map_more, take_all, at_drop_all, at_drop_more}
 use Rattle.frames.specs.declared.frame.Frame.{Frame}
 use Rattle.picker.specs.declared.picker.Picker.{Picker}
-use Rattle.picker.specs.Label.{Met}
+use Rattle.picker.specs.Met.{Met}
+use Rattle.picker.specs.Offers.{SameSettings}
+use Rattle.picker.proofs.Settings.{settings_on}
 use Rattle.runs.specs.declared.call.Call.{Call}
 use Rattle.runs.specs.declared.call.Answer.{Answer}
 use Rattle.runs.specs.Runs.{called, history, answer_after, sheet_after, run_on}
@@ -15,9 +17,7 @@ use Rattle.matroids.specs.declared.matroid.Matroid.{Ghosts as Matroid}
 module _ {W R : Type 0} (O : Objective W) (M : Matroid R) (p₀ : Picker W R) (calls : List Call) (s₀ : List ℕ) where
   -- the first i calls led from p₀ to p; the others leave what the whole run leaves
   pub record Led (i : ℕ) (p : Picker W R) (s : List ℕ) (a : Option Answer) : Type 0 where
-    pub size : p.size.n ≡ p₀.size.n
-    pub matroid : p.matroid ≡ p₀.matroid
-    pub whole : (u : List Frame) → O.value p.objective u ≡ O.value p₀.objective u
+    pub settings : SameSettings O p₀ p
     pub met : Met O M (history (take i calls)) p
     pub left : run_on (O.value p₀.objective) (M.admits p₀.matroid) p₀.size.n (history (take i calls)) (history (drop i calls)) s a ≡ run_on (O.value p₀.objective) (M.admits p₀.matroid) p₀.size.n [] (history calls) s₀ None
 
@@ -27,21 +27,19 @@ module _ {W R : Type 0} (O : Objective W) (M : Matroid R) (p₀ : Picker W R) (c
       let f = O.value p₀.objective in
       let adm = M.admits p₀.matroid in
       let n = p₀.size.n in
-      let same-f : O.value p.objective ≡ f = fun_ext led.whole in
+      let same-f : O.value p.objective ≡ f = fun_ext led.settings.value in
       let r-is : r ≡ answer_after f adm n (history (take i calls)) s (called c) =
       k.answer (history (take i calls)) led.met
-      ∙ ap₂ (λ f m. answer_after f (M.admits m) p.size.n (history (take i calls)) s (called c)) same-f led.matroid
-      ∙ ap (λ n. answer_after f adm n (history (take i calls)) s (called c)) led.size in
+      ∙ ap₂ (λ f m. answer_after f (M.admits m) p.size.n (history (take i calls)) s (called c)) same-f led.settings.matroid
+      ∙ ap (λ n. answer_after f adm n (history (take i calls)) s (called c)) led.settings.size in
       let t-is : t ≡ sheet_after f adm n (history (take i calls)) s (called c) =
       k.sheet (history (take i calls)) led.met
-      ∙ ap₂ (λ f m. sheet_after f (M.admits m) p.size.n (history (take i calls)) s (called c)) same-f led.matroid
-      ∙ ap (λ n. sheet_after f adm n (history (take i calls)) s (called c)) led.size in
+      ∙ ap₂ (λ f m. sheet_after f (M.admits m) p.size.n (history (take i calls)) s (called c)) same-f led.settings.matroid
+      ∙ ap (λ n. sheet_after f adm n (history (take i calls)) s (called c)) led.settings.size in
       let step : run_on f adm n (history (take i calls)) (history (drop i calls)) s a ≡ run_on f adm n (history (take i calls) ++ called (get_or calls i d) ∷ []) (history (drop (i + 1) calls)) (sheet_after f adm n (history (take i calls)) s (called (get_or calls i d))) (Some (answer_after f adm n (history (take i calls)) s (called (get_or calls i d)))) =
       at_drop_more (λ cs. run_on f adm n (history (take i calls)) (history cs) s a) calls i d l in
       record {
-        size = k.size ∙ led.size;
-        matroid = k.matroid ∙ led.matroid;
-        whole = λ u. k.whole u ∙ led.whole u;
+        settings = settings_on O led.settings k.settings;
         met = subst (λ h. Met O M h q) (sym more) (k.carries (history (take i calls)) led.met);
         left = ap (λ h. run_on f adm n h (history (drop (i + 1) calls)) t (Some r)) more
             ∙ ap₂ (λ t r. run_on f adm n (history (take i calls) ++ called c ∷ []) (history (drop (i + 1) calls)) t (Some r)) t-is r-is

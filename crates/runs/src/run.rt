@@ -2,7 +2,8 @@ ghost use Rattle.std.specs.Prelude.{◌≡◌, List, [], None as NoneOf};
 ghost use Rattle.kept.specs.Tables.{held};
 ghost use Rattle.frames.specs.declared.frame.Frame.{Frame as FrameOf};
 ghost use Rattle.picker.specs.Calls.{arrivals};
-ghost use Rattle.picker.specs.Label.{Beside, Label, Met};
+ghost use Rattle.picker.specs.Label.{Beside, Label};
+ghost use Rattle.picker.specs.Met.{Met};
 ghost use Rattle.runs.specs.Carried.{Carried};
 ghost use Rattle.runs.specs.Runs.{called, history, run_on};
 
@@ -35,6 +36,7 @@ pub fn carry_out<W: Objective, R: Matroid>(
 }
 
 // Opens a picker and carries out the calls in order, each carried out, stopped at a fault or declined.
+// Size, objective and matroid stand apart: a struct of them would be taken apart at once.
 pub fn run<W: Objective, R: Matroid>(
     size: Size,
     objective: W,

@@ -4,9 +4,10 @@ use mathlib.Core.Path.{fun_ext}
 use borrow.Rule.Slice.PartMut.{put_mid}
 use Rattle.std.proofs.lemmas.List.{append_assoc, drop-drop, length-append, length-drop, length-take-le, take-append-drop}
 use Rattle.std.proofs.lemmas.Slice.{take-put_mid, drop-put_mid}
-use Rattle.frames.specs.declared.frame.Frame.{Frame}
 use Rattle.picker.specs.Calls.{Called}
-use Rattle.picker.specs.Label.{Met}
+use Rattle.picker.specs.Met.{Met}
+use Rattle.picker.specs.Offers.{SameSettings}
+use Rattle.picker.proofs.Settings.{settings_same, settings_on}
 use Rattle.picker.specs.declared.picker.Picker.{Picker}
 use Rattle.runs.specs.Runs.{called}
 use Rattle.encoding.specs.Reading.{Head, Reads}
@@ -44,27 +45,23 @@ module _ {W R : Type 0} (O : Objective W) (M : Matroid R) (p₀ : Picker W R) (c
   -- the same of whatever calls the bytes are
   pub record Led (t : List ℕ) (to : ℕ) (p : Picker W R) (out : List ℕ) : Type 0 where
     pub room : to ≤ length out
-    pub size : p.size.n ≡ p₀.size.n
-    pub matroid : p.matroid ≡ p₀.matroid
-    pub whole : (u : List Frame) → O.value p.objective u ≡ O.value p₀.objective u
+    pub settings : SameSettings O p₀ p
     pub onward : (cs : List Requested) → Encodes cs calls → due_all cs ≤ length before → Onward cs t to p out
 
   pub led_none : Met O M [] p₀ → Led calls 0 p₀ before
   led_none met =
       record {
         room = omega arith;
-        size = refl;
-        matroid = refl;
-        whole = λ u. refl;
+        settings = settings_same O p₀;
         onward = λ cs e d. record { history = []; rest = cs; encodes = e; met = met; fits = omega arith; left = refl };
       }
 
   -- the answer to a call, by what the picker was opened with
-  answer_is : (p r : Picker W R) (w v : List ℕ) (h : List Called) (c d : Called) → c ≡ d → p.size.n ≡ p₀.size.n → p.matroid ≡ p₀.matroid → ((u : List Frame) → O.value p.objective u ≡ O.value p₀.objective u) → Met O M h p → Answered O M c p w r v → v ≡ answered (O.value p₀.objective) (M.admits p₀.matroid) p₀.size.n h d w
-  answer_is p r w v h c d is size matroid whole met a =
+  answer_is : (p r : Picker W R) (w v : List ℕ) (h : List Called) (c d : Called) → c ≡ d → SameSettings O p₀ p → Met O M h p → Answered O M c p w r v → v ≡ answered (O.value p₀.objective) (M.admits p₀.matroid) p₀.size.n h d w
+  answer_is p r w v h c d is same met a =
       a.window h met
-      ∙ ap₂ (λ f m. answered f (M.admits m) p.size.n h c w) (fun_ext whole) matroid
-      ∙ ap₂ (λ n c. answered (O.value p₀.objective) (M.admits p₀.matroid) n h c w) size is
+      ∙ ap₂ (λ f m. answered f (M.admits m) p.size.n h c w) (fun_ext same.value) same.matroid
+      ∙ ap₂ (λ n c. answered (O.value p₀.objective) (M.admits p₀.matroid) n h c w) same.size is
 
   module _ (t : List ℕ) (to m : ℕ) (x : Request) (q : Requested) (p r : Picker W R) (out v : List ℕ) (k : Head t x q) (is : m ≡ due_of q) (room : m ≤ length out - to) (long : length v ≡ m) (a : Answered O M (called x.call) p (take m (drop to out)) r v) (led : Led t to p out) where
     onward_more : (cs : List Requested) → Encodes cs calls → due_all cs ≤ length before → Onward cs (drop x.length t) (to + m) r (put_mid to m out v)
@@ -78,7 +75,7 @@ module _ {W R : Type 0} (O : Objective W) (M : Matroid R) (p₀ : Picker W R) (c
         let fronts : take (to + m) all ≡ take to out ++ v = take-put_mid to m out v (to + m) (omega arith) within in
         let backs : drop (to + m) all ≡ drop (due_of q) (drop to out) = drop-put_mid to m out v (to + m) (omega arith) within long ∙ sym (drop-drop m to out) ∙ ap (λ m. drop m (drop to out)) is in
         let said : v ≡ answered (O.value p₀.objective) (M.admits p₀.matroid) p₀.size.n o.history (called_of q) (take (due_of q) (drop to out)) =
-        answer_is p r (take m (drop to out)) v o.history (called x.call) (called_of q) k.call led.size led.matroid led.whole o.met a
+        answer_is p r (take m (drop to out)) v o.history (called x.call) (called_of q) k.call led.settings o.met a
         ∙ ap (λ m. answered (O.value p₀.objective) (M.admits p₀.matroid) p₀.size.n o.history (called_of q) (take m (drop to out))) is in
         record {
           history = history;
@@ -99,9 +96,7 @@ module _ {W R : Type 0} (O : Objective W) (M : Matroid R) (p₀ : Picker W R) (c
         let put = put_long to m out v long (omega (arith, room, led.room)) in
         record {
           room = omega (arith, put, room, led.room);
-          size = a.size ∙ led.size;
-          matroid = a.matroid ∙ led.matroid;
-          whole = λ u. a.whole u ∙ led.whole u;
+          settings = settings_on O led.settings a.settings;
           onward = onward_more;
         }
 

@@ -1,6 +1,8 @@
 -- Bytes read call by call. Assumes nothing.
-use Rattle.std.proofs.Common.{◌≡◌, ℕ, ◌+◌, ◌*◌, ◌^◌, ◌<◌, ◌≤◌, List, [], ◌∷◌, ◌++◌, length, drop, Some, None, sym, refl, ap, ◌∙◌, ap₂, arith}
+use Rattle.std.proofs.Common.{◌≡◌, ℕ, ◌+◌, ◌*◌, ◌^◌, ◌<◌, ◌≤◌, ◌==◌, Bool, true, false, List, [], ◌∷◌, ◌++◌, length, drop, Some, None, sym, refl, ap, ◌∙◌, ap₂, arith}
+use Rattle.std.specs.Bool.{then_some}
 use Rattle.std.specs.List.{flat_map}
+use Rattle.std.proofs.lemmas.Bool.{eqb-true}
 use Rattle.std.proofs.lemmas.List.{length-append, length-drop, nil_from_length}
 use Rattle.runs.specs.Runs.{called}
 use Rattle.encoding.specs.Answers.{fixed_of}
@@ -69,14 +71,18 @@ module _ (s : List ℕ) where
             (r.rest, r.encodes);
       }
 
-  -- what is behind begins with no call, so the whole is no calls
   pub walk_stopped : (t : List ℕ) (due : ℕ) → 0 < length t → Walk t due → Reads t None → Due s None
   walk_stopped t due some w none cs k =
       let b = w.on cs k in
       let ended = no_calls b.0 t none b.1 in
       omega (arith, ap length (sym (ap (flat_map bytes_of) ended) ∙ b.1.joins))
 
-  pub walk_all : (t : List ℕ) (due : ℕ) → length t ≡ 0 → Walk t due → Due s (Some due)
+  walk_all : (t : List ℕ) (due : ℕ) → length t ≡ 0 → Walk t due → Due s (Some due)
   walk_all t due none w =
       let b = w.back [] (record { joins = sym (nil_from_length t none); fit = tt }) in
       (b.0, b.1, omega (arith, b.2))
+
+  -- what is behind begins with no call: the whole is calls just where nothing is behind
+  pub walk_ended : (t : List ℕ) (due : ℕ) (b : Bool) → b ≡ (length t == 0) → Walk t due → Reads t None → Due s (then_some b due)
+  walk_ended t due true e w none = walk_all t due (eqb-true (length t) 0 (sym e)) w
+  walk_ended t due false e w none = let some : 0 < length t = grind arith in walk_stopped t due some w none

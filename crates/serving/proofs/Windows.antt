@@ -3,7 +3,7 @@ use Rattle.std.proofs.Common.{◌≡◌, ℕ, ◌-◌, ◌≤◌, List, [], ◌+
 use borrow.Rule.Slice.PartMut.{put_mid}
 use Rattle.std.proofs.lemmas.List.{append-nil, drop_all, drop_at, length-append, length-drop, length-take-le, take_rest}
 use Rattle.picker.specs.Calls.{Called}
-use Rattle.picker.specs.Label.{Met}
+use Rattle.picker.specs.Met.{Met}
 use Rattle.picker.specs.declared.picker.Picker.{Picker}
 use Rattle.runs.specs.Carried.{Carried}
 use Rattle.runs.specs.Runs.{answer_after, sheet_after}
@@ -32,9 +32,7 @@ module _ {W R : Type 0} (O : Objective W) (M : Matroid R) where
   unfolding answered
   answered_in c p q w t v a k is h y e =
       record {
-        size = y.size;
-        matroid = y.matroid;
-        whole = y.whole;
+        settings = y.settings;
         carries = y.carries;
         window = window;
       }

@@ -1,4 +1,5 @@
 #![tactic(auto)]
 
 pub mod refusal;
+mod requests;
 pub mod serve;

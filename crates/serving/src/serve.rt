@@ -1,5 +1,5 @@
 ghost use Rattle.std.specs.Prelude.{◌≡◌, ◌≤◌, List, [], length};
-ghost use Rattle.picker.specs.Label.{Met};
+ghost use Rattle.picker.specs.Met.{Met};
 ghost use Rattle.runs.specs.Runs.{called};
 ghost use Rattle.encoding.specs.Answers.{fixed_of};
 ghost use Rattle.encoding.specs.Requests.{Requested, Encodes};
@@ -8,8 +8,8 @@ ghost use Rattle.serving.specs.Promise.{Promises};
 ghost use Rattle.serving.specs.Serving.{Due, Served, answered_all, due_all};
 
 use crate::refusal::RunRefusal;
+use crate::requests::Requests;
 use encoding::answer::put_answer;
-use encoding::read::read_request;
 use encoding::request::Request;
 use kept::size::Size;
 use matroids::matroid::Matroid;
@@ -24,15 +24,14 @@ const LONGEST: usize = 281_474_976_710_655;
 fn answers_due(calls: &[u8]) -> Option<u128>
     ensures { Due calls.now result }
 {
-    let mut rest = calls;
+    let mut requests = Requests { rest: calls };
     // in 128 bits: many calls may each ask for a print-out of 2^32 bytes, which are more than 64 bits count
     let mut due: u128 = 0;
-    while !rest.is_empty() {
-        let request = read_request(rest)?;
+    // Tried as a `for` over `by_ref()`: the proof lost what is left of the bytes.
+    while let Some(request) = requests.next() {
         due += request.due();
-        rest = &rest[request.length..];
     }
-    Some(due)
+    requests.rest.is_empty().then_some(due)
 }
 
 // Carries out a call, and writes its answer into the window.
@@ -58,10 +57,10 @@ fn answer_all<W: Objective + Drop, R: Matroid + Drop>(
     requires { Met W.Objective R.Matroid [] picker }
     ensures { (cs : List Requested) → Encodes cs calls.now → due_all cs ≤ length answers.old → answers.new ≡ answered_all (W.Objective.value picker.objective) (R.Matroid.admits picker.matroid) picker.size.n [] cs answers.old }
 {
-    let mut rest = calls;
+    let requests = Requests { rest: calls };
     // Tried as a slice that shrinks: the proof lost what was written.
     let mut to = 0;
-    while let Some(request) = read_request(rest) {
+    for request in requests {
         let due = request.due();
         if due > (answers.len() - to) as u128 {
             // never met: the answers due were found to fit
@@ -69,12 +68,12 @@ fn answer_all<W: Objective + Drop, R: Matroid + Drop>(
         }
         let due = due as usize;
         answer(&mut picker, &request, &mut answers[to..to + due]);
-        rest = &rest[request.length..];
         to += due;
     }
 }
 
 // A whole run: the calls and the answers as bytes. It tells how many bytes the answers take.
+// Size, objective and matroid stand apart: a struct of them would be taken apart at once.
 pub fn serve<W: Objective + Drop, R: Matroid + Drop>(
     size: Size,
     objective: W,

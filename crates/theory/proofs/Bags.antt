@@ -1,58 +1,54 @@
 -- Lists as bags, by counts. Assumes nothing.
-use Rattle.std.proofs.Common.{◌≡◌, ℕ, zero, suc, ◌+◌, ◌<◌, ◌≤◌, Bool, true, false, cond, List, [], ◌∷◌, ◌++◌, length, get_or, set, sym, refl, ap, ◌∙◌, arith}
+use Rattle.std.proofs.Common.{◌≡◌, ℕ, suc, ◌+◌, ◌<◌, ◌≤◌, Bool, true, false, cond, List, [], ◌∷◌, ◌++◌, length, set, sym, refl, ap, ◌∙◌, arith, if◌then◌else◌, slice_index_or}
 use Rattle.std.specs.List.{remove}
+use Rattle.std.specs.Set.{remove_key}
+use Rattle.std.proofs.lemmas.List.Sums.{sum_by-cons, sum_by-append, sum_by-set, sum_by-remove}
 use Rattle.theory.specs.Bag.{Same, count, Within, Alike, Orderless}
 
--- s less one x
-abbrev pub without : {A : Type 0} → (A → A → Bool) → A → List A → List A
-without same x [] = []
-without same x (y ∷ s) = cond (same x y) s (y ∷ without same x s)
+-- what std says of sums, of how often an element occurs
+module _ {A : Type 0} (same : A → A → Bool) (z : A) where
+  pub count_cons : (x : A) (s : List A) → count same z (x ∷ s) ≡ (if same z x then 1 else 0) + count same z s
+  count_cons = sum_by-cons (λ y. cond (same z y) 1 0)
 
-module _ {A : Type 0} (same : A → A → Bool) where
-  pub count_append : (x : A) (s t : List A) → count same x (s ++ t) ≡ count same x s + count same x t
-  count_append x [] t = omega arith
-  count_append x (y ∷ s) t = omega (arith, count_append x s t)
+  pub count_append : (s t : List A) → count same z (s ++ t) ≡ count same z s + count same z t
+  count_append = sum_by-append (λ y. cond (same z y) 1 0)
 
-  pub count_set : (z : A) (s : List A) (p : ℕ) (x d : A) → p < length s → count same z (set s p x) + cond (same z (get_or s p d)) 1 0 ≡ count same z s + cond (same z x) 1 0
-  count_set z [] p x d h = absurd (omega arith)
-  count_set z (y ∷ s) zero x d h = omega arith
-  count_set z (y ∷ s) (suc p) x d h = omega (arith, count_set z s p x d (omega arith))
+  pub count_set : (s : List A) (p : ℕ) (x d : A) → p < length s → count same z (set s p x) + (if same z (slice_index_or s p d) then 1 else 0) ≡ count same z s + (if same z x then 1 else 0)
+  count_set = sum_by-set (λ y. cond (same z y) 1 0)
 
-  pub count_removed : (z : A) (s : List A) (p : ℕ) (d : A) → p < length s → count same z (remove s p) + cond (same z (get_or s p d)) 1 0 ≡ count same z s
-  count_removed z [] p d h = absurd (omega arith)
-  count_removed z (y ∷ s) zero d h = omega arith
-  count_removed z (y ∷ s) (suc p) d h = omega (arith, count_removed z s p d (omega arith))
+  pub count_removed : (s : List A) (p : ℕ) (d : A) → p < length s → count same z (remove s p) + (if same z (slice_index_or s p d) then 1 else 0) ≡ count same z s
+  count_removed = sum_by-remove (λ y. cond (same z y) 1 0)
 
 module _ {A : Type 0} {same : A → A → Bool} (eq : Same same) where
-  pub one_self : (x : A) → ◌≡◌ {A = ℕ} (cond (same x x) 1 0) 1
+  pub one_self : (x : A) → ◌≡◌ {A = ℕ} (if same x x then 1 else 0) 1
   one_self x = ap (λ b. cond b 1 0) (eq.self x)
 
-  pub one_both : (z x y : A) → same x y ≡ true → ◌≡◌ {A = ℕ} (cond (same z x) 1 0) (cond (same z y) 1 0)
+  pub one_both : (z x y : A) → same x y ≡ true → ◌≡◌ {A = ℕ} (if same z x then 1 else 0) (if same z y then 1 else 0)
   one_both z x y e = ap (λ w. cond (same z w) 1 0) (eq.tells x y e)
 
-  pub count_without : (z x : A) (s : List A) → 0 < count same x s → count same z (without same x s) + cond (same z x) 1 0 ≡ count same z s
+  pub count_without : (z x : A) (s : List A) → 0 < count same x s → count same z (remove_key (same x) s) + (if same z x then 1 else 0) ≡ count same z s
   count_without z x [] h = omega arith
-  count_without z x (y ∷ s) h = go (same x y) refl h (λ k. count_without z x s k)
+  count_without z x (y ∷ s) h = go (same x y) refl (omega (arith, count_cons)) (λ k. count_without z x s k)
     where
-      go : (b : Bool) → same x y ≡ b → 0 < cond b 1 0 + count same x s → (0 < count same x s → count same z (without same x s) + cond (same z x) 1 0 ≡ count same z s) → count same z (cond b s (y ∷ without same x s)) + cond (same z x) 1 0 ≡ cond (same z y) 1 0 + count same z s
-      go true e k ih = omega (arith, one_both z x y e)
-      go false e k ih = omega (arith, ih (omega arith))
+      go : (b : Bool) → same x y ≡ b → 0 < (if b then 1 else 0) + count same x s → (0 < count same x s → count same z (remove_key (same x) s) + (if same z x then 1 else 0) ≡ count same z s) → count same z (if b then s else y ∷ remove_key (same x) s) + (if same z x then 1 else 0) ≡ count same z (y ∷ s)
+      go true e k ih = omega (arith, count_cons, one_both z x y e)
+      go false e k ih = omega (arith, count_cons, ih (omega arith))
 
-  pub length_without : (x : A) (s : List A) → 0 < count same x s → length (without same x s) + 1 ≡ length s
+  pub length_without : (x : A) (s : List A) → 0 < count same x s → length (remove_key (same x) s) + 1 ≡ length s
   length_without x [] h = omega arith
-  length_without x (y ∷ s) h = go (same x y) h (λ k. length_without x s k)
+  length_without x (y ∷ s) h = go (same x y) (omega (arith, count_cons)) (λ k. length_without x s k)
     where
-      go : (b : Bool) → 0 < cond b 1 0 + count same x s → (0 < count same x s → length (without same x s) + 1 ≡ length s) → length (cond b s (y ∷ without same x s)) + 1 ≡ suc (length s)
+      go : (b : Bool) → 0 < (if b then 1 else 0) + count same x s → (0 < count same x s → length (remove_key (same x) s) + 1 ≡ length s) → length (if b then s else y ∷ remove_key (same x) s) + 1 ≡ suc (length s)
       go true k ih = omega arith
       go false k ih = omega (arith, ih (omega arith))
 
   -- what is left of t when s is taken out
   pub rest_of : (s t : List A) → Within same s t → (r : List A) × Alike same (r ++ s) t × (length r + length s ≡ length t)
-  rest_of [] t h = (t, λ z. omega (arith, count_append same z t []), omega arith)
+  rest_of [] t h = (t, λ z. omega (arith, count_append), omega arith)
   rest_of (x ∷ s) t h =
-      let has : 0 < count same x t = omega (arith, h x, one_self x) in
-      let left = rest_of s (without same x t) (λ z. omega (arith, h z, count_without z x t has)) in
-      (left.0, λ z. omega (arith, left.1 z, count_without z x t has, count_append same z left.0 s, count_append same z left.0 (x ∷ s)), omega (arith, left.2, length_without x t has))
+      let has : 0 < count same x t = omega (arith, count_cons, h x, one_self x) in
+      let left = rest_of s (remove_key (same x) t) (λ z. omega (arith, count_cons, h z, count_without z x t has)) in
+      (left.0, λ z. omega (arith, count_cons, count_append, left.1 z, count_without z x t has), omega (arith, left.2, length_without x t has))
 
   pub length_within : (s t : List A) → Within same s t → length s ≤ length t
   length_within s t h = omega (arith, (rest_of s t h).2)
@@ -80,24 +76,24 @@ module _ {A : Type 0} {same : A → A → Bool} (eq : Same same) where
   pub within_cons : (x : A) (s t : List A) → Within same s t → count same x s < count same x t → Within same (x ∷ s) t
   within_cons x s t h m z = go (same z x) refl
     where
-      go : (b : Bool) → same z x ≡ b → cond (same z x) 1 0 + count same z s ≤ count same z t
-      go true e = let i = eq.tells z x e in let j : ◌≡◌ {A = ℕ} (cond (same z x) 1 0) 1 = ap (λ b. cond b 1 0) e in omega (arith, ap (λ w. count same w s) i, ap (λ w. count same w t) i)
-      go false e = let j : ◌≡◌ {A = ℕ} (cond (same z x) 1 0) 0 = ap (λ b. cond b 1 0) e in omega (arith, h z)
+      go : (b : Bool) → same z x ≡ b → count same z (x ∷ s) ≤ count same z t
+      go true e = let i = eq.tells z x e in let j : ◌≡◌ {A = ℕ} (cond (same z x) 1 0) 1 = ap (λ b. cond b 1 0) e in omega (arith, count_cons, ap (λ w. count same w s) i, ap (λ w. count same w t) i)
+      go false e = let j : ◌≡◌ {A = ℕ} (cond (same z x) 1 0) 0 = ap (λ b. cond b 1 0) e in omega (arith, count_cons, h z)
 
   -- x may be taken to the front
-  pub to_front : {B : Type 0} (h : List A → B) → Orderless h → (x : A) (s : List A) → 0 < count same x s → h s ≡ h (x ∷ without same x s)
+  pub to_front : {B : Type 0} (h : List A → B) → Orderless h → (x : A) (s : List A) → 0 < count same x s → h s ≡ h (x ∷ remove_key (same x) s)
   to_front h o x [] k = absurd (omega arith)
-  to_front {B} h o x (y ∷ s) k = go (same x y) refl k (λ j. to_front (λ t. h (y ∷ t)) (λ p. o (y ∷ p)) x s j)
+  to_front {B} h o x (y ∷ s) k = go (same x y) refl (omega (arith, count_cons)) (λ j. to_front (λ t. h (y ∷ t)) (λ p. o (y ∷ p)) x s j)
     where
-      go : (b : Bool) → same x y ≡ b → 0 < cond b 1 0 + count same x s → (0 < count same x s → h (y ∷ s) ≡ h (y ∷ x ∷ without same x s)) → h (y ∷ s) ≡ h (x ∷ cond b s (y ∷ without same x s))
+      go : (b : Bool) → same x y ≡ b → 0 < (if b then 1 else 0) + count same x s → (0 < count same x s → h (y ∷ s) ≡ h (y ∷ x ∷ remove_key (same x) s)) → h (y ∷ s) ≡ h (x ∷ (if b then s else y ∷ remove_key (same x) s))
       go true e j ih = ap (λ w. h (w ∷ s)) (sym (eq.tells x y e))
-      go false e j ih = ih (omega arith) ∙ o [] y x (without same x s)
+      go false e j ih = ih (omega arith) ∙ o [] y x (remove_key (same x) s)
 
   -- what does not go by the order goes by the counts alone
   pub by_counts : {B : Type 0} (h : List A → B) → Orderless h → (s t : List A) → Alike same s t → h s ≡ h t
   by_counts h o [] [] e = refl
-  by_counts h o [] (y ∷ t) e = absurd (omega (arith, e y, one_self y))
+  by_counts h o [] (y ∷ t) e = absurd (omega (arith, count_cons, e y, one_self y))
   by_counts h o (x ∷ s) t e =
-      let has : 0 < count same x t = omega (arith, e x, one_self x) in
-      by_counts (λ u. h (x ∷ u)) (λ p. o (x ∷ p)) s (without same x t) (λ z. omega (arith, e z, count_without z x t has))
+      let has : 0 < count same x t = omega (arith, count_cons, e x, one_self x) in
+      by_counts (λ u. h (x ∷ u)) (λ p. o (x ∷ p)) s (remove_key (same x) t) (λ z. omega (arith, count_cons, e z, count_without z x t has))
       ∙ sym (to_front h o x t has)

@@ -1,5 +1,5 @@
 -- The laws hold of a small case, and a replay of it computes. Assumes nothing.
-use Rattle.std.proofs.Common.{◌≡◌, ℕ, suc, min, Bool, eqb, leb, List, [], ◌∷◌, length, sum_by, refl, arith}
+use Rattle.std.proofs.Common.{◌≡◌, ℕ, suc, min, Bool, eqb, leb, List, [], ◌∷◌, length, sum_by, refl, arith, nat_eq, nat_le}
 use Rattle.std.proofs.lemmas.List.Sums.{sum_by-cons}
 use Rattle.std.proofs.lemmas.Bool.{eqb-true, eq-eqb, leb-true, le-leb}
 use Rattle.theory.specs.Bag.{Same}
@@ -15,9 +15,9 @@ total s = min 10 (sum_by (λ x. x) s)
 
 -- at most two frames
 abbrev two : List ℕ → Bool
-two s = leb (length s) 2
+two s = nat_le (length s) 2
 
-same_numbers : Same eqb
+same_numbers : Same nat_eq
 same_numbers = record { tells = eqb-true; self = λ x. eq-eqb x x refl }
 
 total_laws : Submodular total
@@ -28,7 +28,7 @@ total_laws = record {
   falls = λ x y s. omega (arith, sum_by-cons (λ (y : ℕ). y) x (y ∷ s), sum_by-cons (λ (y : ℕ). y) x s, sum_by-cons (λ (y : ℕ). y) y s);
 }
 
-two_laws : MatroidLaws eqb two
+two_laws : MatroidLaws nat_eq two
 two_laws = record {
   nothing = refl;
   order = orderless_after (λ k. leb k 2) length orderless_length;

@@ -8,7 +8,7 @@ use Rattle.theory.specs.Bag.{Same, count, Within, Alike}
 use Rattle.theory.specs.Laws.{Submodular, MatroidLaws}
 use Rattle.theory.specs.Digits.{binary_length}
 use Rattle.theory.specs.Replay.{State, frames, gain_of, keep, swap, step}
-use Rattle.theory.proofs.Bags.{count_append, count_set, count_removed}
+use Rattle.theory.proofs.Bags.{count_cons, count_append, count_set, count_removed}
 use Rattle.theory.proofs.Digits.{binary_length_twice, binary_length_pos}
 use Rattle.theory.proofs.Values.{Earns, earns_push, earns_set, earns_more}
 use Rattle.theory.proofs.Fitting.{Fits, adm_alike}
@@ -39,7 +39,7 @@ module _ {A : Type 0} {same : A → A → Bool} (eq : Same same) {f : List A →
     told = inv.told;
     took = inv.took;
     passed = (x, gain_of f st x) ∷ inv.passed;
-    offered = λ z. omega (arith, inv.offered z, count_append same z seen (x ∷ []), count_append same z st.accepted (frames inv.passed), count_append same z st.accepted (x ∷ frames inv.passed));
+    offered = λ z. omega (arith, count_cons, count_append, inv.offered z);
     barred = ((bar, omega (arith, w.more x st.accepted)), inv.barred);
   }
 
@@ -52,21 +52,21 @@ module _ {A : Type 0} {same : A → A → Bool} (eq : Same same) {f : List A →
     accepts = omega (arith, w.more x st.accepted, pos)
 
     earns_x : Earns f st.kept (x ∷ []) (gain_of f st x + 0)
-    earns_x = earns_more eq w st.kept x (gain_of f st x) st.accepted [] 0 (λ z. omega (arith, inv.within z, count_append same z (frames st.kept) [])) accepts inv.earns
+    earns_x = earns_more eq w st.kept x (gain_of f st x) st.accepted [] 0 (λ z. omega (arith, count_append, inv.within z)) accepts inv.earns
 
     offered_x : Alike same ((x ∷ st.accepted) ++ frames inv.passed) (seen ++ (x ∷ []))
-    offered_x z = omega (arith, inv.offered z, count_append same z seen (x ∷ []))
+    offered_x z = omega (arith, count_cons, count_append, inv.offered z)
 
     inv_keep : length st.kept < n → adm (x ∷ frames st.kept) ≡ true → Inv same f adm n (seen ++ (x ∷ [])) (keep st x (gain_of f st x))
     inv_keep room' ok =
         let g = gain_of f st x in
         let es = st.kept in
         let is : frames (es ++ ((x, g) ∷ [])) ≡ frames es ++ (x ∷ []) = map_push (λ e. e.0) es (x, g) in
-        let like : Alike same (x ∷ frames es) (frames (es ++ ((x, g) ∷ []))) = λ z. omega (arith, ap (count same z) is, count_append same z (frames es) (x ∷ [])) in
+        let like : Alike same (x ∷ frames es) (frames (es ++ ((x, g) ∷ []))) = λ z. omega (arith, count_cons, count_append, ap (count same z) is) in
         record {
           fits = (sym (adm_alike eq room n (x ∷ frames es) (frames (es ++ ((x, g) ∷ []))) like) ∙ ok, omega (arith, length-map (es ++ ((x, g) ∷ [])) (λ e. e.0), length_push es (x, g)));
           sourced = subst (Sourced (seen ++ (x ∷ []))) (sym is) (sourced_push seen x (frames es) inv.sourced);
-          within = λ z. omega (arith, inv.within z, like z);
+          within = λ z. omega (arith, count_cons, inv.within z, like z);
           earns = earns_push eq w es x g [] 0 inv.earns earns_x;
           told = omega (arith, inv.told, accepts, sum_by_push (λ (e : A × ℕ). e.1) es (x, g));
           took = omega (arith, inv.took, binary_length_pos g pos, sum_by_push (λ (e : A × ℕ). binary_length e.1) es (x, g));
@@ -84,11 +84,11 @@ module _ {A : Type 0} {same : A → A → Bool} (eq : Same same) {f : List A →
         let long : p < length (frames es) = omega (arith, take.place, length-map es (λ e. e.0)) in
         let low : 2 * old.1 ≤ g = omega (arith, take.heavier, get_or-map (λ (e : A × ℕ). e.1) es p (x, g) 0 take.place) in
         let moved : (z : A) → count same z (frames (set es p (x, g))) + cond (same z (get_or (frames es) p x)) 1 0 ≡ count same z (frames es) + cond (same z x) 1 0 = λ z. omega (arith, ap (count same z) is, count_set same z (frames es) p x x long) in
-        let like : Alike same (x ∷ remove (frames es) p) (frames (set es p (x, g))) = λ z. omega (arith, moved z, count_removed same z (frames es) p x long) in
+        let like : Alike same (x ∷ remove (frames es) p) (frames (set es p (x, g))) = λ z. omega (arith, count_cons, moved z, count_removed same z (frames es) p x long) in
         record {
           fits = (sym (adm_alike eq room n (x ∷ remove (frames es) p) (frames (set es p (x, g))) like) ∙ take.may, omega (arith, inv.fits.1, length-map es (λ e. e.0), length-map (set es p (x, g)) (λ e. e.0), length-set es p (x, g)));
           sourced = subst (Sourced (seen ++ (x ∷ []))) (sym is) (sourced_set seen x (frames es) p inv.sourced);
-          within = λ z. omega (arith, inv.within z, moved z);
+          within = λ z. omega (arith, count_cons, inv.within z, moved z);
           earns = earns_set eq w es p x g [] 0 inv.earns earns_x;
           told = omega (arith, inv.told, accepts, low, sum_by-set (λ (e : A × ℕ). e.1) es p (x, g) (x, g) take.place);
           took = omega (arith, inv.took, binary_length_twice old.1 g pos low, sum_by-set (λ (e : A × ℕ). binary_length e.1) es p (x, g) (x, g) take.place);

@@ -1,5 +1,5 @@
 -- A replay that goes on: what is left of the value, once some elements are accepted, leads the same way. Assumes nothing.
-use Rattle.std.proofs.Common.{◌≡◌, ℕ, ◌+◌, ◌-◌, ◌*◌, ◌≤◌, Bool, true, false, cond, eqb, leb, List, [], ◌∷◌, ◌++◌, get_or, Some, None, fold, Option, sym, refl, ap, ◌∙◌, arith}
+use Rattle.std.proofs.Common.{◌≡◌, ℕ, ◌+◌, ◌-◌, ◌*◌, ◌≤◌, Bool, true, false, cond, eqb, leb, List, [], ◌∷◌, ◌++◌, get_or, Some, None, fold, Option, sym, refl, ap, ◌∙◌, arith, if◌then◌else◌}
 use Rattle.std.proofs.lemmas.List.{append-nil, append_assoc}
 use Rattle.theory.specs.Bag.{Orderless}
 use Rattle.theory.specs.Laws.{Submodular}
@@ -51,7 +51,7 @@ module _ {A : Type 0} {f : List A → ℕ} (w : Submodular f) (a : List A) where
         es : List (A × ℕ)
         es = st.kept
 
-        by_gain : (g p : ℕ) (b : Bool) → cond b (swap (behind st) p x g) (behind st) ≡ behind (cond b (swap st p x g) st)
+        by_gain : (g p : ℕ) (b : Bool) → (if b then swap (behind st) p x g else behind st) ≡ behind (if b then swap st p x g else st)
         by_gain g p true = refl
         by_gain g p false = refl
 
@@ -59,7 +59,7 @@ module _ {A : Type 0} {f : List A → ℕ} (w : Submodular f) (a : List A) where
         by_place g None = refl
         by_place g (Some p) = by_gain g p (leb (2 * get_or (gains es) p 0) g)
 
-        go : (g : ℕ) (b c : Bool) (o : Option ℕ) → cond b (behind st) (cond c (keep (behind st) x g) (offer (behind st) x g o)) ≡ behind (cond b st (cond c (keep st x g) (offer st x g o)))
+        go : (g : ℕ) (b c : Bool) (o : Option ℕ) → (if b then behind st else if c then keep (behind st) x g else offer (behind st) x g o) ≡ behind (if b then st else if c then keep st x g else offer st x g o)
         go g true c o = refl
         go g false true o = refl
         go g false false o = by_place g o

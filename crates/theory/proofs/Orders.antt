@@ -4,8 +4,9 @@ use Rattle.std.specs.List.Sorted.{IsPermutation}
 use Rattle.std.proofs.lemmas.List.Sorted.{IsPermutation-cons, IsPermutation-swap, sum_by-IsPermutation}
 use Rattle.std.proofs.lemmas.List.Sums.{sum_by-append, sum_by-cons}
 use Rattle.std.proofs.lemmas.Bool.{cases_lt}
+use Rattle.std.specs.Set.{remove_key}
 use Rattle.theory.specs.Bag.{Same, count, Alike, Orderless}
-use Rattle.theory.proofs.Bags.{without, count_without, to_front}
+use Rattle.theory.proofs.Bags.{count_cons, count_without, to_front}
 
 -- a function of something that does not go by the order
 pub orderless_after : {A B C : Type 0} (g : B → C) (h : List A → B) → Orderless h → Orderless (λ s. g (h s))
@@ -27,12 +28,8 @@ shuffled_next (z ∷ p) x y s = IsPermutation-cons z (p ++ (x ∷ y ∷ s)) (p +
 pub orderless_from_shuffled : {A B : Type 0} (h : List A → B) → ((s t : List A) → IsPermutation s t → h s ≡ h t) → Orderless h
 orderless_from_shuffled h inv p x y s = inv (p ++ (x ∷ y ∷ s)) (p ++ (y ∷ x ∷ s)) (shuffled_next p x y s)
 
-pub count_sum_by : {A : Type 0} (same : A → A → Bool) (z : A) (s : List A) → count same z s ≡ sum_by (λ y. cond (same z y) 1 0) s
-count_sum_by same z [] = refl
-count_sum_by same z (y ∷ s) = omega (arith, count_sum_by same z s, sum_by-cons (λ x. cond (same z x) 1 0) y s)
-
 pub alike_from_shuffled : {A : Type 0} (same : A → A → Bool) (s t : List A) → IsPermutation s t → Alike same s t
-alike_from_shuffled same s t h z = omega (arith, count_sum_by same z s, count_sum_by same z t, sum_by-IsPermutation (λ y. cond (same z y) 1 0) s t h)
+alike_from_shuffled same s t h z = sym (sum_by-IsPermutation (λ y. cond (same z y) 1 0) s t h)
 
 pub orderless_length : {A : Type 0} → Orderless (length {A = A})
 orderless_length {A} = orderless_fold (length {A = A}) (λ x b. suc b) (λ x s. refl) (λ x y b. refl)
@@ -42,22 +39,22 @@ module _ {A : Type 0} {same : A → A → Bool} (eq : Same same) (p : A → Bool
   pub occurs_more : (t s : List A) → count_by p s < count_by p t → (x : A) × (p x ≡ true) × (count same x s < count same x t)
   occurs_more [] s h = absurd (omega arith)
   occurs_more (y ∷ t) s h =
-      ⊎_elim (λ few. go_few few (p y) refl (λ k. occurs_more t s k)) (λ has. go_has has (λ k. occurs_more t (without same y s) k)) (cases_lt (count same y s) (count same y (y ∷ t)))
+      ⊎_elim (λ few. go_few few (p y) refl (λ k. occurs_more t s k)) (λ has. go_has has (λ k. occurs_more t (remove_key (same y) s) k)) (cases_lt (count same y s) (count same y (y ∷ t)))
     where
       go_few : count same y s < count same y (y ∷ t) → (b : Bool) → p y ≡ b → (count_by p s < count_by p t → (x : A) × (p x ≡ true) × (count same x s < count same x t)) → (x : A) × (p x ≡ true) × (count same x s < count same x (y ∷ t))
       go_few few true e ih = (y, e, few)
       go_few few false e ih =
           let none : ◌≡◌ {A = ℕ} (cond (p y) 1 0) 0 = ap (λ b. cond b 1 0) e in
           let got = ih (omega (arith, h, sum_by-cons (λ x. cond (p x) 1 0) y t)) in
-          (got.0, got.1, omega (arith, got.2))
+          (got.0, got.1, omega (arith, count_cons, got.2))
 
-      go_has : count same y (y ∷ t) ≤ count same y s → (count_by p (without same y s) < count_by p t → (x : A) × (p x ≡ true) × (count same x (without same y s) < count same x t)) → (x : A) × (p x ≡ true) × (count same x s < count same x (y ∷ t))
+      go_has : count same y (y ∷ t) ≤ count same y s → (count_by p (remove_key (same y) s) < count_by p t → (x : A) × (p x ≡ true) × (count same x (remove_key (same y) s) < count same x t)) → (x : A) × (p x ≡ true) × (count same x s < count same x (y ∷ t))
       go_has le ih =
           let self : ◌≡◌ {A = ℕ} (cond (same y y) 1 0) 1 = ap (λ b. cond b 1 0) (eq.self y) in
-          let has : 0 < count same y s = omega (arith, le) in
+          let has : 0 < count same y s = omega (arith, count_cons, le) in
           let front = to_front eq (sum_by (λ x. cond (p x) 1 0)) (orderless_sum_by (λ x. cond (p x) 1 0)) y s has in
-          let got = ih (omega (arith, h, front, sum_by-cons (λ x. cond (p x) 1 0) y (without same y s), sum_by-cons (λ x. cond (p x) 1 0) y t)) in
-          (got.0, got.1, omega (arith, got.2, count_without eq got.0 y s has))
+          let got = ih (omega (arith, h, front, sum_by-cons (λ x. cond (p x) 1 0) y (remove_key (same y) s), sum_by-cons (λ x. cond (p x) 1 0) y t)) in
+          (got.0, got.1, omega (arith, count_cons, got.2, count_without eq got.0 y s has))
 
 -- every element passes the test that each one passes
 pub count_by_all : {A : Type 0} (s : List A) → count_by (λ x. true) s ≡ length s

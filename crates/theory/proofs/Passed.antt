@@ -3,10 +3,11 @@ use Rattle.std.proofs.Common.{◌≡◌, ℕ, ◌+◌, ◌<◌, ◌≤◌, Bool,
 use Rattle.std.specs.List.{AllByRecursion}
 use Rattle.std.proofs.ByRecursion.{All-weaker}
 use Rattle.std.proofs.lemmas.Bool.{cases_lt}
+use Rattle.std.specs.Set.{remove_key}
 use Rattle.theory.specs.Bag.{Same, count, Within, Alike}
 use Rattle.theory.specs.Laws.{Submodular, MatroidLaws}
 use Rattle.theory.specs.Replay.{State, frames}
-use Rattle.theory.proofs.Bags.{without, count_append, count_without}
+use Rattle.theory.proofs.Bags.{count_cons, count_append, count_without}
 use Rattle.theory.proofs.Layers.{tall, layers}
 use Rattle.theory.proofs.Heavy.{heavy, heavy_within, length_heavy, heavy_has}
 use Rattle.theory.proofs.Values.{worth_within, worth-sum}
@@ -27,16 +28,16 @@ module _ {A : Type 0} {same : A → A → Bool} (eq : Same same) where
     where
       go : (i : Bool) → same z e ≡ i → count same z c ≤ count same z (a ++ s)
       go true p = omega (arith, ap (λ w. count same w c) (eq.tells z e p))
-      go false p = let u : ◌≡◌ {A = ℕ} (cond (same z e) 1 0) 0 = ap (λ w. cond w 1 0) p in omega (arith, h z, count_append same z a s, count_append same z a (e ∷ s))
+      go false p = let u : ◌≡◌ {A = ℕ} (cond (same z e) 1 0) 0 = ap (λ w. cond w 1 0) p in omega (arith, count_cons, count_append, h z)
 
   pub part_choice : (Q : A × ℕ → Type 0) (a : List A) (es : List (A × ℕ)) (c : List A) → AllByRecursion Q es → Within same c (a ++ frames es) → Parted same Q a c
-  part_choice Q a [] c q h = record { b = c; ds = []; within = λ z. omega (arith, h z, count_append same z a []); all = tt; alike = λ z. omega (arith, count_append same z c []) }
+  part_choice Q a [] c q h = record { b = c; ds = []; within = λ z. omega (arith, count_append, h z); all = tt; alike = λ z. omega (arith, count_append) }
   part_choice Q a (e ∷ es) c q h =
-      ⊎_elim (λ has. add has (part_choice Q a es (without same e.0 c) q.1 (λ z. omega (arith, h z, count_without eq z e.0 c has, count_append same z a (frames es), count_append same z a (e.0 ∷ frames es)))))
+      ⊎_elim (λ has. add has (part_choice Q a es (remove_key (same e.0) c) q.1 (λ z. omega (arith, count_cons, count_append, h z, count_without eq z e.0 c has))))
       (λ none. part_choice Q a es c q.1 (within_drop e.0 a (frames es) c h none)) (cases_lt 0 (count same e.0 c))
     where
-      add : 0 < count same e.0 c → Parted same Q a (without same e.0 c) → Parted same Q a c
-      add has r = record { b = r.b; ds = e ∷ r.ds; within = r.within; all = (q.0, r.all); alike = λ z. omega (arith, r.alike z, count_without eq z e.0 c has, count_append same z r.b (frames r.ds), count_append same z r.b (e.0 ∷ frames r.ds)) }
+      add : 0 < count same e.0 c → Parted same Q a (remove_key (same e.0) c) → Parted same Q a c
+      add has r = record { b = r.b; ds = e ∷ r.ds; within = r.within; all = (q.0, r.all); alike = λ z. omega (arith, count_cons, count_append, r.alike z, count_without eq z e.0 c has) }
 
 -- what holds of a passed frame and the gain that it had
 abbrev pub Passed : {A : Type 0} → (List A → ℕ) → (List A → Bool) → ℕ → State A → A × ℕ → Type 0
@@ -59,8 +60,8 @@ module _ {A : Type 0} {same : A → A → Bool} (eq : Same same) {adm : List A �
       let r = part_choice eq (Passed f adm n st) st.accepted passed c all in' in
       let a = st.accepted in
       let ds = r.ds in
-      let fd = fits_within eq room n (frames ds) c (λ z. omega (arith, r.alike z, count_append same z r.b (frames ds))) fc in
+      let fd = fits_within eq room n (frames ds) c (λ z. omega (arith, count_append, r.alike z)) fc in
       let bars = All-weaker (Passed f adm n st) (Barred adm n st.kept) (λ e h. h.0) ds r.all in
       let adds = All-weaker (Passed f adm n st) (λ e. f (e.0 ∷ a) ≤ f a + e.1) (λ e h. h.1) ds r.all in
-      let big = worth_within eq w c (frames ds ++ a) (λ z. omega (arith, r.alike z, r.within z, count_append same z r.b (frames ds), count_append same z (frames ds) a)) in
+      let big = worth_within eq w c (frames ds ++ a) (λ z. omega (arith, count_append, r.alike z, r.within z)) in
       omega (arith, big, worth-sum eq w a ds adds, layers (λ (e : A × ℕ). e.1) twice ds st.kept (λ t pos. layer_le st.kept ds fits fd bars t pos))

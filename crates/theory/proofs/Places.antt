@@ -1,14 +1,15 @@
 -- Distinct places of the arrivals, and the bag of what stands there. Assumes nothing.
-use Rattle.std.proofs.Common.{◌≡◌, ℕ, zero, suc, ◌+◌, ◌<◌, ◌≤◌, Bool, cond, ◌≢◌, List, [], ◌∷◌, ◌++◌, map, length, set, Some, None, Option, sym, refl, ap, ◌∙◌, ap₂, arith}
+use Rattle.std.proofs.Common.{◌≡◌, ℕ, zero, suc, ◌+◌, ◌<◌, ◌≤◌, Bool, ◌≢◌, List, [], ◌∷◌, ◌++◌, map, length, set, Some, None, Option, sym, refl, ap, ◌∙◌, ap₂, arith, if◌then◌else◌}
 use Rattle.std.specs.List.{AllByRecursion, slice_get}
 use Rattle.std.proofs.ByRecursion.{All-weaker, All-push, All-set}
-use Rattle.std.proofs.lemmas.List.{map_push, map-set}
+use Rattle.std.proofs.lemmas.List.{map_push, map-set, length-map}
 use Rattle.theory.specs.Bag.{count, Within, Distinct, Drawn}
+use Rattle.theory.proofs.Bags.{count_cons}
 
 -- how often z stands in what was found
 abbrev found : {A : Type 0} → (A → A → Bool) → A → Option A → ℕ
 found same z None = 0
-found same z (Some y) = cond (same z y) 1 0
+found same z (Some y) = if same z y then 1 else 0
 
 abbrev hits : {A : Type 0} → (A → A → Bool) → A → List A → List ℕ → ℕ
 hits same z arrivals [] = 0
@@ -40,23 +41,23 @@ module _ {A : Type 0} (same : A → A → Bool) (z : A) where
   hits_past y ys (zero ∷ ps) h = absurd (h.0 refl)
   hits_past y ys (suc p ∷ ps) h = omega (arith, hits_past y ys ps h.1)
 
-  hits_down : (y : A) (ys : List A) (ps : List ℕ) → Distinct ps → hits same z (y ∷ ys) ps ≤ cond (same z y) 1 0 + hits same z ys (downs ps)
+  hits_down : (y : A) (ys : List A) (ps : List ℕ) → Distinct ps → hits same z (y ∷ ys) ps ≤ (if same z y then 1 else 0) + hits same z ys (downs ps)
   hits_down y ys [] h = omega arith
   hits_down y ys (zero ∷ ps) h = omega (arith, hits_past y ys ps h.0)
   hits_down y ys (suc p ∷ ps) h = omega (arith, hits_down y ys ps h.1)
 
   hits_le : (arrivals : List A) (ps : List ℕ) → Distinct ps → hits same z arrivals ps ≤ count same z arrivals
   hits_le [] ps h = omega (arith, hits_none ps)
-  hits_le (y ∷ ys) ps h = omega (arith, hits_down y ys ps h, hits_le ys (downs ps) (downs_distinct ps h))
+  hits_le (y ∷ ys) ps h = omega (arith, count_cons, hits_down y ys ps h, hits_le ys (downs ps) (downs_distinct ps h))
 
   hits_are : (arrivals : List A) (ps : List ℕ) (c : List A) → map (slice_get arrivals) ps ≡ map Some c → count same z c ≡ hits same z arrivals ps
   hits_are arrivals [] [] e = refl
-  hits_are arrivals [] (x ∷ c) e = let k : ◌≡◌ {A = ℕ} 0 1 = cc in absurd (omega arith)
-  hits_are arrivals (p ∷ ps) [] e = let k : ◌≡◌ {A = ℕ} 0 1 = cc in absurd (omega arith)
+  hits_are arrivals [] (x ∷ c) e = cc
+  hits_are arrivals (p ∷ ps) [] e = cc
   hits_are arrivals (p ∷ ps) (x ∷ c) e =
       let head : slice_get arrivals p ≡ Some x = cc in
       let tail : map (slice_get arrivals) ps ≡ map Some c = cc in
-      omega (arith, ap (found same z) head, hits_are arrivals ps c tail)
+      omega (arith, count_cons, ap (found same z) head, hits_are arrivals ps c tail)
 
 module _ {A : Type 0} where
   -- what is drawn lies in the arrivals
@@ -64,10 +65,7 @@ module _ {A : Type 0} where
   drawn_within same arrivals ps c d z = omega (arith, hits_are same z arrivals ps c d.1, hits_le same z arrivals ps d.0)
 
   pub length_drawn : (arrivals : List A) (ps : List ℕ) (c : List A) → map (slice_get arrivals) ps ≡ map Some c → length ps ≡ length c
-  length_drawn arrivals [] [] e = refl
-  length_drawn arrivals [] (x ∷ c) e = let k : ◌≡◌ {A = ℕ} 0 1 = cc in absurd (omega arith)
-  length_drawn arrivals (p ∷ ps) [] e = let k : ◌≡◌ {A = ℕ} 0 1 = cc in absurd (omega arith)
-  length_drawn arrivals (p ∷ ps) (x ∷ c) e = let tail : map (slice_get arrivals) ps ≡ map Some c = cc in omega (arith, length_drawn arrivals ps c tail)
+  length_drawn arrivals ps c e = omega (arith, ap length e, length-map ps (slice_get arrivals), length-map c Some)
 
   nth_push : (s : List A) (y : A) (p : ℕ) → p < length s → slice_get (s ++ (y ∷ [])) p ≡ slice_get s p
   nth_push [] y p h = absurd (omega arith)

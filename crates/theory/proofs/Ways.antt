@@ -1,5 +1,5 @@
 -- What a step gives, by the tests that code makes. Assumes nothing.
-use Rattle.std.proofs.Common.{◌≡◌, ℕ, ◌*◌, ◌<◌, ◌≤◌, Bool, true, false, cond, List, get_or, Some, None, Option, refl, ap, ◌∙◌, ⊎_elim, arith}
+use Rattle.std.proofs.Common.{◌≡◌, ℕ, ◌*◌, ◌<◌, ◌≤◌, Bool, true, false, cond, List, get_or, Some, None, Option, refl, ap, ◌∙◌, ⊎_elim, arith, if◌then◌else◌, slice_index}
 use Rattle.std.proofs.lemmas.Bool.{cases_order, le-leb, lt-leb, eq-eqb, ne_eqb}
 use Rattle.theory.specs.Replay.{State, gains, lightest, gain_of, keep, swap, offer, may_take, has_room, step}
 use Rattle.theory.specs.Lightest.{LightestIs}
@@ -20,7 +20,7 @@ module _ {A : Type 0} (f : List A → ℕ) (adm : List A → Bool) (n : ℕ) (st
   pub step_empty : gain_of f st x ≡ 0 → step f adm n st x ≡ st
   step_empty e = ap (λ b. cond b st (cond (has_room adm n st.kept x) (keep st x (gain_of f st x)) (offer st x (gain_of f st x) (lightest (may_take adm st.kept x) (gains st.kept))))) (eq-eqb (gain_of f st x) 0 e)
 
-  some-gain : 0 < gain_of f st x → step f adm n st x ≡ cond (has_room adm n st.kept x) (keep st x (gain_of f st x)) (offer st x (gain_of f st x) (lightest (may_take adm st.kept x) (gains st.kept)))
+  some-gain : 0 < gain_of f st x → step f adm n st x ≡ (if has_room adm n st.kept x then keep st x (gain_of f st x) else offer st x (gain_of f st x) (lightest (may_take adm st.kept x) (gains st.kept)))
   some-gain pos = ap (λ b. cond b st (cond (has_room adm n st.kept x) (keep st x (gain_of f st x)) (offer st x (gain_of f st x) (lightest (may_take adm st.kept x) (gains st.kept))))) (ne_eqb (gain_of f st x) 0 (omega arith))
 
   pub step-keep : 0 < gain_of f st x → has_room adm n st.kept x ≡ true → step f adm n st x ≡ keep st x (gain_of f st x)
@@ -31,8 +31,8 @@ module _ {A : Type 0} (f : List A → ℕ) (adm : List A → Bool) (n : ℕ) (st
       some-gain pos ∙ ap (λ b. cond b (keep st x (gain_of f st x)) (offer st x (gain_of f st x) (lightest (may_take adm st.kept x) (gains st.kept)))) room
       ∙ ap (offer st x (gain_of f st x)) (lightest_from (may_take adm st.kept x) (gains st.kept) o is)
 
-  pub offer_swaps : (g p : ℕ) → 2 * get_or (gains st.kept) p 0 ≤ g → offer st x g (Some p) ≡ swap st p x g
+  pub offer_swaps : (g p : ℕ) → 2 * slice_index (gains st.kept) p ≤ g → offer st x g (Some p) ≡ swap st p x g
   offer_swaps g p h = ap (λ b. cond b (swap st p x g) st) (le-leb (2 * get_or (gains st.kept) p 0) g h)
 
-  pub offer_passes : (g p : ℕ) → g < 2 * get_or (gains st.kept) p 0 → offer st x g (Some p) ≡ st
+  pub offer_passes : (g p : ℕ) → g < 2 * slice_index (gains st.kept) p → offer st x g (Some p) ≡ st
   offer_passes g p h = ap (λ b. cond b (swap st p x g) st) (lt-leb (2 * get_or (gains st.kept) p 0) g h)

@@ -1,5 +1,5 @@
 -- Lists as bags: how often an element occurs, and lists of distinct places. Assumes nothing.
-use Rattle.std.specs.Prelude.{◌≡◌, ℕ, ◌+◌, ◌≤◌, Bool, true, ◌≢◌, List, [], ◌∷◌, ◌++◌, map, length, Some, if◌then◌else◌}
+use Rattle.std.specs.Prelude.{◌≡◌, ℕ, ◌≤◌, Bool, true, ◌≢◌, List, [], ◌∷◌, ◌++◌, map, length, Some, count_by}
 use Rattle.std.specs.List.{AllByRecursion, slice_get}
 
 -- `same` tells equal elements from others
@@ -9,8 +9,7 @@ pub record Same {A : Type 0} (same : A → A → Bool) : Type 0 where
 
 -- how often x occurs
 abbrev pub count : {A : Type 0} → (A → A → Bool) → A → List A → ℕ
-count same x [] = 0
-count same x (y ∷ s) = (if same x y then 1 else 0) + count same x s
+count same x s = count_by (same x) s
 
 -- no element occurs more often in s than in t
 abbrev pub Within : {A : Type 0} → (A → A → Bool) → List A → List A → Type 0
@@ -24,6 +23,7 @@ Alike {A} same s t = (x : A) → count same x s ≡ count same x t
 abbrev pub Orderless : {A B : Type 0} → (List A → B) → Type 0
 Orderless {A} h = (p : List A) (x y : A) (s : List A) → h (p ++ (x ∷ y ∷ s)) ≡ h (p ++ (y ∷ x ∷ s))
 
+-- no place twice; not std's IsDistinct, which asks a test and must be unfolded where two places are told apart
 abbrev pub Distinct : List ℕ → Type 0
 Distinct [] = Unit {0}
 Distinct (p ∷ ps) = AllByRecursion (λ q. q ≢ p) ps × Distinct ps

@@ -12,7 +12,7 @@ pub struct Truncation<M> {
 impl<M: Matroid> Truncation<M> {
     pub fn new(below: M, limit: u32) -> Result<Self, Refused> {
         if limit > MOST {
-            return Err(refused(Refusal::Over, 0));
+            return Err(refused(Refusal::TooHigh, 0));
         }
         Ok(Truncation { below, limit })
     }

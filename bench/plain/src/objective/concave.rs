@@ -17,7 +17,7 @@ impl Concave {
         let steps = of_length::<512>(steps)?;
         for (index, &step) in steps.iter().enumerate() {
             if step > HIGHEST_STEP {
-                return Err(refused(Refusal::Over, index));
+                return Err(refused(Refusal::TooHigh, index));
             }
             if index % STEPS != 0 && step > steps[index - 1] {
                 return Err(refused(Refusal::Rising, index));

@@ -29,11 +29,11 @@ returns c =
     let cap = c.args.cap in
     let most = c.args.most in
     let p = c.run-ran.result.picker in
-    let label = label_at n h c.new.result.cap c.new-2.result.most cap most c.new.ensures.cap c.new-2.ensures (held p.table) p.took c.run-ran.ensures.label in
+    let label = label_at n h c.new.result.cap c.new-2.result cap most c.new.ensures.cap c.new-2.ensures (held p.table) p.took c.run-ran.ensures.label in
     let took : c.counts.result.took ≡ p.took = ap (λ k. k.took) c.counts.ensures.value in
     record {
       took = took ∙ label.accepted;
       least = omega (arith, took, label.accepted, taken_least cap most n (arrivals h));
       few = omega (arith, took, few_at (count_up_to cap) n p.took (arrivals h) (held p.table) most label);
-      sheet = sheet_at n h c.new.result.cap c.new-2.result.most cap most c.new.ensures.cap c.new-2.ensures c.args.sheet.now c.run-ran.new.sheet c.run-ran.result.answer c.run-ran.ensures.left;
+      sheet = sheet_at n h c.new.result.cap c.new-2.result cap most c.new.ensures.cap c.new-2.ensures c.args.sheet.now c.run-ran.new.sheet c.run-ran.result.answer c.run-ran.ensures.left;
     }

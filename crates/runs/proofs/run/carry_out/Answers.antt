@@ -3,6 +3,7 @@ use Rattle.std.specs.Option.{ok_or}
 use Rattle.std.specs.List.{slice_get}
 use Rattle.frames.specs.declared.refusal.Refusal.TheVariants.{NoPlace}
 use Rattle.records.specs.Sheets.{Printed as PrintedAs}
+use Rattle.picker.proofs.Settings.{settings_same}
 use Rattle.runs.specs.declared.call.Answer.TheVariants.{Offered, Texted, Looked, Printed}
 use Rattle.runs.specs.Carried.{Carried}
 use Rattle.runs.specs.Histories.{digest_after}
@@ -17,9 +18,7 @@ returns-in-Offer g c =
     let o = c.offer.ensures in
     let same = offered_same g.W.Objective g.R.Matroid p c.in-Offer.x c.offer.result c.offer.new.self o.step in
     subst (λ k. Carried g.W.Objective g.R.Matroid (called k) p s (Offered c.offer.result) c.offer.new.self s) (sym c.in-Offer.is) (record {
-      size = same.0;
-      matroid = same.1;
-      whole = same.2;
+      settings = same;
       carries = o.carries;
       answer = λ h k. ap Offered (offered_answer g.W.Objective g.R.Matroid h p k c.in-Offer.x c.offer.result c.offer.new.self o.step);
       sheet = λ h k. refl;
@@ -33,9 +32,7 @@ returns-in-Text g c =
     let t = c.in-Text.text.now in
     let same = texted_same g.W.Objective g.R.Matroid p t c.offer_text.result c.offer_text.new.self o.step in
     subst (λ k. Carried g.W.Objective g.R.Matroid (called k) p s (Texted c.offer_text.result) c.offer_text.new.self s) (sym c.in-Text.is) (record {
-      size = same.0;
-      matroid = same.1;
-      whole = same.2;
+      settings = same;
       carries = o.carries;
       answer = λ h k. ap Texted (texted_answer g.W.Objective g.R.Matroid h p k t c.offer_text.result c.offer_text.new.self o.step);
       sheet = λ h k. refl;
@@ -46,9 +43,7 @@ returns-in-Look g c =
     let p = c.args.picker.now in
     let s = c.args.sheet.now in
     subst (λ k. Carried g.W.Objective g.R.Matroid (called k) p s (Looked c.look.result) p s) (sym c.in-Look.is) (record {
-      size = refl;
-      matroid = refl;
-      whole = λ u. refl;
+      settings = settings_same g.W.Objective p;
       carries = c.look.ensures.carries;
       answer = λ h k. ap Looked (c.look.ensures.value ∙ ap (λ es. ok_or (slice_get es c.in-Look.place) NoPlace) (entries_is g.W.Objective g.R.Matroid h p k));
       sheet = λ h k. refl;
@@ -60,9 +55,7 @@ returns-in-Print g c =
     let s = c.args.sheet.now in
     let out : (h : _) (k : _) → _ = λ h k. printed_answer (digest_after (g.W.Objective.value p.objective) (g.R.Matroid.admits p.matroid) p.size.n h) s c.print.new.out c.print.result (subst (λ d. PrintedAs d s c.print.new.out c.print.result) (digest_is g.W.Objective g.R.Matroid h p k) c.print.ensures.printed) in
     subst (λ k. Carried g.W.Objective g.R.Matroid (called k) p s (Printed c.print.result) p c.print.new.out) (sym c.in-Print.is) (record {
-      size = refl;
-      matroid = refl;
-      whole = λ u. refl;
+      settings = settings_same g.W.Objective p;
       carries = c.print.ensures.carries;
       answer = λ h k. ap Printed (out h k).0;
       sheet = λ h k. (out h k).1;

@@ -20,9 +20,9 @@ returns g c =
     let made = c.open-picker.ensures.opened in
     let h = history c.args.calls.now in
     let all = led_all g.W.Objective g.R.Matroid p₀ c.args.calls.now c.args.sheet.now c.loop-call.call-index p c.loop-call.sheet c.loop-call.answer c.loop-call-test.false led in
-    let value : (s : List Frame) → g.W.Objective.value p.objective s ≡ g.W.Objective.value c.args.objective s = λ s. led.whole s ∙ made.whole s in
-    let matroid : p.matroid ≡ c.args.matroid = led.matroid ∙ made.rule in
-    let size : p.size.n ≡ c.args.size.n = led.size ∙ made.size in
+    let value : (s : List Frame) → g.W.Objective.value p.objective s ≡ g.W.Objective.value c.args.objective s = λ s. led.settings.value s ∙ made.whole s in
+    let matroid : p.matroid ≡ c.args.matroid = led.settings.matroid ∙ made.rule in
+    let size : p.size.n ≡ c.args.size.n = led.settings.size ∙ made.size in
     let both = promises g.W.Objective g.R.Matroid p h all.0 in
     record {
       size = size;

@@ -1,30 +1,21 @@
-use Rattle.std.proofs.Common.{◌≡◌, ◌<◌, ◌+◌, length, drop, sym, subst, arith}
-use Rattle.std.proofs.lemmas.List.{take_rest}
+use Rattle.std.proofs.Common.{◌+◌, ◌==◌, length, drop, sym, ap, ◌∙◌, subst}
 use Rattle.serving.specs.Serving.{Due}
-use Rattle.serving.proofs.Walks.{Walk, walk_more, walk_stopped, walk_all}
+use Rattle.serving.proofs.Walks.{Walk, walk_more, walk_ended}
 use Rattle.serving.proofs.serve.answers_due.Goals as goal
 
-pub returns-in_err-request : goal.returns-in_err-request
-returns-in_err-request c =
+pub loop-request-preserved : goal.loop-request-preserved
+loop-request-preserved c =
     let s = c.args.calls.now in
-    let l = c.loop-rest in
-    let a = c.is_empty.ensures in
-    let b = c.loop-rest-test.true in
-    let some : 0 < length l.rest.now = grind arith in
-    subst (Due s) (sym c.from_residual.ensures) (walk_stopped s l.rest.now l.due some l.invariant c.in_err-request.ensures)
-
-pub loop-rest-preserved : goal.loop-rest-preserved
-loop-rest-preserved c =
-    let s = c.args.calls.now in
-    let l = c.loop-rest in
-    let x = c.in_ok-request.request in
-    subst (λ t. Walk s t (l.due + c.due-due.result)) (sym (take_rest l.rest.now x.length))
-    (subst (λ k. Walk s (drop x.length l.rest.now) (l.due + k)) (sym c.due-due.ensures) (walk_more s l.rest.now l.due x l.invariant c.in_ok-request.ensures))
+    let l = c.loop-request in
+    let t = l.requests.rest.now in
+    let x = c.in-Some.request in
+    subst (λ t. Walk s t (l.due + c.due-due.result)) (sym c.in-Some.ensures.steps.1)
+    (subst (λ k. Walk s (drop x.length t) (l.due + k)) (sym c.due-due.ensures) (walk_more s t l.due x l.invariant c.in-Some.ensures.steps.0))
 
 pub returns : goal.returns
 returns c =
-    let l = c.loop-rest in
-    let a = c.is_empty.ensures in
-    let b = c.loop-rest-test.false in
-    let none : length l.rest.now ≡ 0 = grind arith in
-    walk_all c.args.calls.now l.rest.now l.due none l.invariant
+    let s = c.args.calls.now in
+    let l = c.loop-request in
+    let none = c.in_default.ensures.steps in
+    subst (Due s) (sym c.then_some.ensures)
+    (walk_ended s l.requests.rest.now l.due c.is_empty.result (c.is_empty.ensures ∙ ap (λ t. length t == 0) none.1) l.invariant none.0)

@@ -12,5 +12,5 @@ returns-then-from g c =
     let p = c.args.place in
     let n = c.args.self.now.gain in
     let twice : 2 * gain_at (held t) p ≤ n = omega (arith, c.if-from.true, c.from.ensures, c.from-2.ensures, c.gain_at-least.ensures) in
-    ap (Swapped p n) (ap (λ es. (get_or es p no_entry).frame) c.entries.ensures ∙ entry_frame t p c.requires no_entry)
+    ap (Swapped p n) (ap (λ es. (get_or es p no_entry).frame) c.entries.ensures.value ∙ entry_frame t p c.requires no_entry)
     ∙ sym (cond-true (leb (2 * gain_at (held t) p) n) (Swapped p n (frame_at (held t) p)) (Light p n (gain_at (held t) p)) (le-leb (2 * gain_at (held t) p) n twice))

@@ -3,6 +3,7 @@ use Rattle.theory.specs.Lightest.{LightestBelow}
 use Rattle.theory.specs.Replay.{gains, may_take}
 use Rattle.kept.specs.Tables.{held}
 use Rattle.kept.proofs.Tables.{length-gains}
+use Rattle.exchange.specs.Search.{lighter_than}
 use Rattle.exchange.proofs.Search.{search_barred, search_heavy, search_found}
 use Rattle.exchange.proofs.bid.Bid.lightest.Goals as goal
 use Rattle.exchange.proofs.bid.Bid.lightest.Goals.{else-is_lighter-via-then-is_lighter+else-may_take, else-is_lighter-via-else-is_lighter}
@@ -10,7 +11,7 @@ use Rattle.exchange.proofs.bid.Bid.lightest.Goals.{else-is_lighter-via-then-is_l
 pub may_take-requires : goal.may_take-requires
 may_take-requires g c =
     let s = c.in-Some.ensures.steps in
-    omega (arith, s.1.0, s.1.1, c.loop-p.invariant.1, c.len.ensures)
+    omega (arith, s.1.0, s.1.1, c.loop-p.invariant.1, c.len.ensures.value)
 
 pub loop-p-preserved-then-may_take : goal.loop-p-preserved-then-may_take
 loop-p-preserved-then-may_take g c =
@@ -23,7 +24,7 @@ loop-p-preserved-then-may_take g c =
     let Below : ℕ → Option ℕ → Type 0 = LightestBelow counts gs in
     let next : c.next.new.self.start ≡ p + 1 = omega (arith, s.1.1, s.1.2) in
     let before : Below p c.loop-p.best = subst (λ i. Below i c.loop-p.best) (sym s.1.1) inv.2 in
-    let after : Below (p + 1) (Some p) = search_found counts gs p c.loop-p.best (sym c.is_lighter.ensures ∙ c.if-is_lighter.true) (sym {b = counts p} c.may_take.ensures ∙ c.if-may_take.true) before in
+    let after : Below (p + 1) (Some p) = search_found counts gs p c.loop-p.best (sym {b = lighter_than gs p c.loop-p.best} c.is_lighter.ensures ∙ c.if-is_lighter.true) (sym {b = counts p} c.may_take.ensures ∙ c.if-may_take.true) before in
     (omega (arith, inv.0, s.0, s.1.0, s.1.2), s.0 ∙ inv.1, subst (λ i. Below i (Some p)) (sym next) after)
 
 pub loop-p-preserved : goal.loop-p-preserved
@@ -39,7 +40,7 @@ loop-p-preserved g c =
     let before : Below p = subst Below (sym s.1.1) inv.2 in
     let after : Below (p + 1) = elim c.else-is_lighter.branch [
       | else-is_lighter-via-then-is_lighter+else-may_take w ↦ search_barred counts gs p c.loop-p.best (sym {b = counts p} w.may_take.ensures ∙ w.if-may_take.false) before
-      | else-is_lighter-via-else-is_lighter w ↦ search_heavy counts gs p c.loop-p.best (sym c.is_lighter.ensures ∙ w.if-is_lighter.false) before
+      | else-is_lighter-via-else-is_lighter w ↦ search_heavy counts gs p c.loop-p.best (sym {b = lighter_than gs p c.loop-p.best} c.is_lighter.ensures ∙ w.if-is_lighter.false) before
     ] in
     (omega (arith, inv.0, s.0, s.1.0, s.1.2), s.0 ∙ inv.1, subst Below (sym next) after)
 
@@ -49,5 +50,5 @@ returns g c =
     let t = b.table.now in
     let s = c.in_default.ensures.steps in
     let inv = c.loop-p.invariant in
-    let n : c.loop-p.places.start ≡ length (gains (held t)) = omega (arith, inv.0, inv.1, s, c.len.ensures, length-gains t) in
+    let n : c.loop-p.places.start ≡ length (gains (held t)) = omega (arith, inv.0, inv.1, s, c.len.ensures.value, length-gains t) in
     subst (λ n. LightestBelow (may_take (g.R.Matroid.admits b.matroid.now) (held t) b.frame) (gains (held t)) n c.loop-p.best) n inv.2

@@ -2,12 +2,12 @@ use Rattle.std.proofs.Common.{◌≡◌, ℕ, ◌≤◌, true, List, get_or, sym
 use Rattle.frames.proofs.Settings.{low_bytes_same}
 use Rattle.kinds.specs.Matroids.{parent_of, may_hold}
 use Rattle.kinds.proofs.Lanes.{parents_from}
-use Rattle.laminar.proofs.Trees.{tree_accepted, parents_low}
+use Rattle.laminar.proofs.Trees.{parents_low}
 use Rattle.laminar.proofs.laminar.LaminarMatroid.new.Goals as goal
 
 pub invariant_of-result : goal.invariant_of-result
 invariant_of-result c =
-    let got = tree_accepted c.args.caps.now c.args.parents.now c.in_ok-check_tree.ensures in
+    let got = c.in_ok-check_tree.ensures.accepted in
     let caps = low_bytes_same c.low_bytes.result c.args.caps.now 96 (omega arith) got.count (λ i. omega (arith, got.limit i)) c.low_bytes.ensures in
     let parents = low_bytes_same c.low_bytes-2.result c.args.parents.now 96 (omega arith) got.paired (parents_low c.args.parents.now (parents_from c.args.parents.now got.paired got.tree)) c.low_bytes-2.ensures in
     let low = subst (λ (ns : List ℕ). (i : ℕ) → get_or ns i 0 ≤ 48) (sym caps) got.limit in
@@ -16,7 +16,7 @@ invariant_of-result c =
 
 pub returns : goal.returns
 returns c =
-    let got = tree_accepted c.args.caps.now c.args.parents.now c.in_ok-check_tree.ensures in
+    let got = c.in_ok-check_tree.ensures.accepted in
     let caps = low_bytes_same c.low_bytes.result c.args.caps.now 96 (omega arith) got.count (λ i. omega (arith, got.limit i)) c.low_bytes.ensures in
     let parents = low_bytes_same c.low_bytes-2.result c.args.parents.now 96 (omega arith) got.paired (parents_low c.args.parents.now (parents_from c.args.parents.now got.paired got.tree)) c.low_bytes-2.ensures in
-    record { fault = c.in_ok-check_tree.ensures; accepted = (caps, parents) }
+    record { fault = c.in_ok-check_tree.ensures.fault; accepted = (caps, parents) }

@@ -19,7 +19,7 @@ loop-i-preserved c =
       | then-shown-i-eq1 b ↦ omega (arith, b.gain-is, cond-true (shows shown i) weight 0 (eq-eqb _ 1 b.if-shown-i-eq1.true))
       | else-shown-i-eq1 b ↦ omega (arith, b.gain-is, cond-false (shows shown i) weight 0 (ne_eqb _ 1 b.if-shown-i-eq1.false))
     ] in
-    let new = class_new (λ y. y.marks) w.covered w.weights x 64 i (omega arith) (omega arith) in
+    let new = class_new (λ y. y.marks) w.covered w.weights x i (omega arith) (omega arith) in
     let more = classes_more (λ y. y.marks) (uncovered w.covered w.weights) (x ∷ []) i in
     let low = cond_le (shows shown i) weight 67108863 (w.limit i) in
     (omega (arith, c.loop-i.invariant.0), omega (arith, c.loop-i.invariant.1))

@@ -44,7 +44,6 @@ returns g c =
       seen = refl;
       gain = omega (arith, p.gains, c.gain_at-was.ensures, c.from-2.ensures, c.from-3.ensures, moved.0, moved.1);
       tells = ap (λ n. p.told + n) c.from.ensures;
-      size = refl;
-      matroid = refl;
-      objective = search rules;
+      settings = record { size = refl; matroid = refl; value = search rules };
+      left = search rules;
     }
