@@ -1,8 +1,7 @@
 #![tactic(auto)]
 
-mod fault;
+pub mod fault;
 mod number;
-mod opened;
-pub mod piles;
-mod run;
-mod settings;
+pub mod opened;
+pub mod run;
+pub mod settings;

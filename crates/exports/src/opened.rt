@@ -18,15 +18,16 @@ use objectives::objective::Objective;
 use operations::direct_sum::DirectSum;
 use operations::truncation::Truncation;
 
-pub(crate) type CappedFacility<'a> = Sum<Capped<Coverage>, FacilityLocation<'a>>;
+pub type CappedFacility<'a> = Sum<Capped<Coverage>, FacilityLocation<'a>>;
 
-pub(crate) type TruncatedLaminar = Truncation<LaminarMatroid>;
+pub type TruncatedLaminar = Truncation<LaminarMatroid>;
 
-pub(crate) type ConcaveCoverage = Sum<ConcaveCounts, Coverage>;
+pub type ConcaveCoverage = Sum<ConcaveCounts, Coverage>;
 
-pub(crate) type GraphicPartition = DirectSum<GraphicMatroid, PartitionMatroid>;
+pub type GraphicPartition = DirectSum<GraphicMatroid, PartitionMatroid>;
 
-pub(crate) fn coverage_partition(
+// Coverage over a partition matroid.
+pub fn coverage_partition(
     size: u32,
     weights: &[u32],
     caps: &[u32],
@@ -41,7 +42,8 @@ pub(crate) fn coverage_partition(
     })
 }
 
-pub(crate) fn capped_facility_laminar<'a>(
+// The sum of coverage under a cap and facility location, over a truncated laminar matroid.
+pub fn capped_facility_laminar<'a>(
     size: u32,
     weights: &[u32],
     cap: u32,
@@ -64,7 +66,8 @@ pub(crate) fn capped_facility_laminar<'a>(
     })
 }
 
-pub(crate) fn concave_graphic(
+// The sum of concave counts and coverage, over the direct sum of the graphic matroid and a partition matroid.
+pub fn concave_graphic(
     size: u32,
     steps: &[u32],
     weights: &[u32],

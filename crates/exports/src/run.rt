@@ -12,7 +12,7 @@ use objectives::objective::Objective;
 use serving::serve::serve;
 
 // A whole run, if each argument is in order, as the number that is returned.
-pub(crate) fn run<W: Objective + Drop, R: Matroid + Drop>(
+pub fn run<W: Objective + Drop, R: Matroid + Drop>(
     settings: Result<Settings<W, R>, ArgumentFault>,
     calls: &[u8],
     answers: &mut [u8],

@@ -8,7 +8,7 @@ use kept::size::Size;
 
 // What a picker is opened with.
 #[derive(Drop)]
-pub(crate) struct Settings<W, R> {
+pub struct Settings<W, R> {
     pub size: Size,
     pub objective: W,
     pub matroid: R,

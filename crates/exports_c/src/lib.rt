@@ -3,9 +3,11 @@
 ghost use Rattle.std.specs.Prelude.{◌≡◌, ◌≢◌, ◌%◌};
 ghost use Rattle.exports.specs.Piles.{Exported, capped_facility, capped_facility_laminar_fault, concave_coverage, concave_graphic_fault, coverage_of, coverage_partition_fault, graphic_partition, partition_of, truncated_laminar};
 
-use exports::piles;
+use exports::opened::{capped_facility_laminar, concave_graphic, coverage_partition};
+use exports::run::run;
 
-// C links by a function's own name and is told a number, so each is passed on here, with its contract.
+// Each answers the number that C is told. Clause `refused` says without the word `Exported` what a weaker definition of that
+// would lose.
 
 // Coverage over a partition matroid.
 #[unsafe(no_mangle)]
@@ -19,7 +21,7 @@ pub extern "C" fn fogetsu_coverage_partition(
     ensures exported { Exported (coverage_partition_fault size weights.now caps.now) (coverage_of weights.now) (partition_of caps.now) size calls.now answers.old result answers.new }
     ensures refused { result % 65536 ≢ 0 → answers.new ≡ answers.old }
 {
-    piles::fogetsu_coverage_partition(size, weights, caps, calls, answers)
+    run(coverage_partition(size, weights, caps), calls, answers)
 }
 
 // The sum of coverage under a cap and facility location, over a truncated laminar matroid.
@@ -38,8 +40,10 @@ pub extern "C" fn fogetsu_capped_facility_laminar(
     ensures exported { Exported (capped_facility_laminar_fault size weights.now most caps.now parents.now) (capped_facility weights.now cap table.now) (truncated_laminar most caps.now parents.now) size calls.now answers.old result answers.new }
     ensures refused { result % 65536 ≢ 0 → answers.new ≡ answers.old }
 {
-    piles::fogetsu_capped_facility_laminar(
-        size, weights, cap, table, most, caps, parents, calls, answers,
+    run(
+        capped_facility_laminar(size, weights, cap, table, most, caps, parents),
+        calls,
+        answers,
     )
 }
 
@@ -56,5 +60,5 @@ pub extern "C" fn fogetsu_concave_graphic(
     ensures exported { Exported (concave_graphic_fault size steps.now weights.now caps.now) (concave_coverage steps.now weights.now) (graphic_partition caps.now) size calls.now answers.old result answers.new }
     ensures refused { result % 65536 ≢ 0 → answers.new ≡ answers.old }
 {
-    piles::fogetsu_concave_graphic(size, steps, weights, caps, calls, answers)
+    run(concave_graphic(size, steps, weights, caps), calls, answers)
 }

@@ -1,7 +1,6 @@
 // Short runs, worked out by hand.
-use exports::piles::{
-    fogetsu_capped_facility_laminar, fogetsu_concave_graphic, fogetsu_coverage_partition,
-};
+use exports::opened::{capped_facility_laminar, concave_graphic, coverage_partition};
+use exports::run::run;
 
 // Class 0 weighs 100, class 1 weighs 50. The tests of each crate have their own.
 fn weights() -> [u32; 64] {
@@ -10,12 +9,16 @@ fn weights() -> [u32; 64] {
     weights
 }
 
+fn covered(size: u32, weights: &[u32], calls: &[u8], answers: &mut [u8]) -> u64 {
+    run(coverage_partition(size, weights, &[1; 64]), calls, answers)
+}
+
 // Frame 7 shows class 0, on lane 5; then the counts, place 0 and a clear.
 #[test]
 fn coverage_over_a_partition(rt: HostRuntime) {
     let calls = b"\x01\x07\0\0\0\x01\0\0\0\0\0\0\0\0\x05\x01\x02\0\x04\x03\0\0\0\0\x06";
     let mut answers = [9; 83];
-    let ran = fogetsu_coverage_partition(2, &weights(), &[1; 64], calls, &mut answers);
+    let ran = covered(2, &weights(), calls, &mut answers);
     assert_eq!(rt; ran, 82 * 65_536);
     let offered = b"\0\x01\0\x64\0\0\0\0\0\0\0\0\0\0\0\0\0\0\0\0\0\0\0\0\0\0\0\0";
     assert_eq!(rt; &answers[0..28], &offered[0..28]);
@@ -31,22 +34,13 @@ fn refused_runs(rt: HostRuntime) {
     let calls = b"\x01\x07\0\0\0\x01\0\0\0\0\0\0\0\0\x05\x01\x02\0";
     let mut short = [9; 27];
     let cut = &calls[0..17];
-    assert_eq!(rt;
-        fogetsu_coverage_partition(2, &weights(), &[1; 64], cut, &mut short),
-        13
-    );
-    assert_eq!(rt;
-        fogetsu_coverage_partition(2, &weights(), &[1; 64], calls, &mut short),
-        14
-    );
-    assert_eq!(rt;
-        fogetsu_coverage_partition(49, &weights(), &[1; 64], calls, &mut short),
-        1 + 256
-    );
+    assert_eq!(rt; covered(2, &weights(), cut, &mut short), 13);
+    assert_eq!(rt; covered(2, &weights(), calls, &mut short), 14);
+    assert_eq!(rt; covered(49, &weights(), calls, &mut short), 1 + 256);
     let mut heavy = weights();
     heavy[3] = 67_108_864;
     assert_eq!(rt;
-        fogetsu_coverage_partition(2, &heavy, &[1; 64], calls, &mut short),
+        covered(2, &heavy, calls, &mut short),
         7 + 2 * 256 + 3 * 65_536
     );
     assert_eq!(rt; &short[0..27], &[9; 27][0..27]);
@@ -55,14 +49,8 @@ fn refused_runs(rt: HostRuntime) {
 fn capped(parents: &[u32], answers: &mut [u8]) -> u64 {
     let calls =
         b"\x01\x01\0\0\0\x01\0\0\0\0\0\0\0\0\0\0\0\0\x01\x02\0\0\0\x02\0\0\0\0\0\0\0\x01\x01\0\0\0";
-    fogetsu_capped_facility_laminar(
-        2,
-        &weights(),
-        120,
-        &[1; 64],
-        1,
-        &[48; 96],
-        parents,
+    run(
+        capped_facility_laminar(2, &weights(), 120, &[1; 64], 1, &[48; 96], parents),
         calls,
         answers,
     )
@@ -85,7 +73,11 @@ fn capped_coverage_and_facility_over_a_truncated_tree(rt: HostRuntime) {
 fn joined(steps: &[u32], answers: &mut [u8]) -> u64 {
     let calls =
         b"\x01\x01\0\0\0\x03\0\0\0\0\0\0\0\0\0\x01\x02\0\x01\x02\0\0\0\0\0\0\0\0\0\0\0\0\0\x02\x01\0\x01\x03\0\0\0\0\0\0\0\0\0\0\0\0\0\0\0\x01";
-    fogetsu_concave_graphic(3, steps, &weights(), &[1; 64], calls, answers)
+    run(
+        concave_graphic(3, steps, &weights(), &[1; 64]),
+        calls,
+        answers,
+    )
 }
 
 // Both classes and the first step of lane 0; then the same stations joined again; then the other side. A step may not

@@ -22,12 +22,12 @@ impl Written for Places<'_> {
         Some(left)
     }
 
-    fn put(&self, out: &mut [u8]) -> usize {
+    fn put(&self, out: &mut [u8]) -> Option<usize> {
         // no `fold`, as in `written.rt`
         let mut at = 0;
         for (place, entry) in self.entries.iter().enumerate() {
-            at += place_lines(place, entry).put(&mut out[at..]);
+            at += place_lines(place, entry).put(&mut out[at..])?;
         }
-        at
+        Some(at)
     }
 }

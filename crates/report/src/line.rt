@@ -44,7 +44,7 @@ impl Written for Line {
         self.parts().room_after(room)
     }
 
-    fn put(&self, out: &mut [u8]) -> usize {
+    fn put(&self, out: &mut [u8]) -> Option<usize> {
         self.parts().put(out)
     }
 }

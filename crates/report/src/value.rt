@@ -23,7 +23,7 @@ impl Written for Value {
         }
     }
 
-    fn put(&self, out: &mut [u8]) -> usize {
+    fn put(&self, out: &mut [u8]) -> Option<usize> {
         match *self {
             Value::Decimal(n) => Buffer::new().format(n).as_bytes().put(out),
             Value::Hexadecimal(n) => hexadecimal(n).as_slice().put(out),

@@ -15,19 +15,19 @@ pub(crate) trait Written {
     fn room_after(&self, room: usize) -> Option<usize>
         ensures { SomeIff result (length (text self.now) ≤ room) (room - length (text self.now)) };
 
-    // Writes it at the front of `out`, and answers its length.
-    fn put(&self, out: &mut [u8]) -> usize
-        requires { length (text self.now) ≤ length out.old }
-        ensures len { result ≡ length (text self.now) }
-        ensures after { out.new ≡ over (text self.now) out.old };
+    // Writes it at the front of `out`, if it fits, and answers its length. If not, some of its parts may be written.
+    fn put(&self, out: &mut [u8]) -> Option<usize>
+        ensures len { SomeIff result (length (text self.now) ≤ length out.old) (length (text self.now)) }
+        ensures after { length (text self.now) ≤ length out.old → out.new ≡ over (text self.now) out.old };
 }
 
 // Writes `x` at the front of `out`, if it fits, and answers its length.
 pub(crate) fn print<T: Written>(x: &T, out: &mut [u8]) -> Result<usize, Refusal>
     ensures { Printed (T.text x.now) out.old out.new result }
 {
+    // no `and_then`: the check then does not know what is on the sheet
     x.room_after(out.len()).ok_or(Refusal::ShortSheet)?;
-    Ok(x.put(out))
+    x.put(out).ok_or(Refusal::ShortSheet)
 }
 
 impl Written for &[u8] {
@@ -37,10 +37,10 @@ impl Written for &[u8] {
         room.checked_sub(self.len())
     }
 
-    fn put(&self, out: &mut [u8]) -> usize {
-        let len = self.len();
-        out[..len].copy_from_slice(self);
-        len
+    fn put(&self, out: &mut [u8]) -> Option<usize> {
+        let (front, _) = out.split_at_mut_checked(self.len())?;
+        front.copy_from_slice(self);
+        Some(self.len())
     }
 }
 
@@ -52,9 +52,10 @@ impl<A: Written, B: Written> Written for (A, B) {
         self.1.room_after(self.0.room_after(room)?)
     }
 
-    fn put(&self, out: &mut [u8]) -> usize {
-        let at = self.0.put(out);
-        at + self.1.put(&mut out[at..])
+    #[tactic(auto, using(crate::proofs::Pieces::both_put))]
+    fn put(&self, out: &mut [u8]) -> Option<usize> {
+        let at = self.0.put(out)?;
+        Some(at + self.1.put(&mut out[at..])?)
     }
 }
 
@@ -71,12 +72,12 @@ impl<T: Written, const N: usize> Written for [T; N] {
         Some(left)
     }
 
-    fn put(&self, out: &mut [u8]) -> usize {
+    fn put(&self, out: &mut [u8]) -> Option<usize> {
         // Tried as `fold`, and as a slice that shrinks: the check lost what was written.
         let mut at = 0;
         for x in self {
-            at += x.put(&mut out[at..]);
+            at += x.put(&mut out[at..])?;
         }
-        at
+        Some(at)
     }
 }

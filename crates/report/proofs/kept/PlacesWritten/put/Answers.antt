@@ -8,7 +8,7 @@ pub loop-place-preserved : goal.loop-place-preserved
 loop-place-preserved c =
     let es = c.args.self.now.entries.now in
     let l = c.loop-place in
-    let p = c.put-at in
+    let q = c.in_ok-at in
     let rest = places_from (l.place + 1) (drop (l.place + 1) es) in
     let next = at_drop_more (places_from l.place) es l.place _ c.loop-place-test.true ∙ ap (λ t. t ++ rest) (sym c.place_lines.ensures) in
-    left_more (places_from 0 es) _ _ rest l.at p.result l.out p.new.out c.args.out.now next l.invariant p.ensures.after p.ensures.len
+    left_more (places_from 0 es) _ _ rest l.at q.field-0 l.out c.put.new.out c.args.out.now next l.invariant q.ensures.len.1 q.ensures.len.0 (q.ensures.after q.ensures.len.0)

@@ -9,7 +9,7 @@ loop-x-preserved g c =
     let texts = flat_map g.T.Written.text in
     let xs = c.args.self.now in
     let l = c.loop-x in
-    let p = c.put-at in
+    let q = c.in_ok-at in
     let within : l.x-index < length xs = omega arith in
-    left_more (texts xs) _ _ (texts (drop (l.x-index + 1) xs)) l.at p.result l.out p.new.out c.args.out.now
-    (at_drop_more texts xs l.x-index c.x-item.result within) l.invariant p.ensures.after p.ensures.len
+    left_more (texts xs) _ _ (texts (drop (l.x-index + 1) xs)) l.at q.field-0 l.out c.put.new.out c.args.out.now
+    (at_drop_more texts xs l.x-index c.x-item.result within) l.invariant q.ensures.len.1 q.ensures.len.0 (q.ensures.after q.ensures.len.0)
