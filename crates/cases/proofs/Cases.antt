@@ -1,5 +1,5 @@
 -- Each case of the table holds, by computing it. Assumes nothing.
-use Rattle.std.proofs.Common.{[], ◌∷◌, refl}
+use Rattle.std.proofs.Common.{[], ◌∷◌, refl, arith}
 use Rattle.frames.specs.Settings.{numbers_fault}
 use Rattle.kinds.specs.Objectives.{coverage, uncovered, concave}
 use Rattle.kinds.specs.Matroids.{partition, laminar, lies_in}
@@ -11,7 +11,8 @@ use Rattle.records.specs.Format.{hexadecimal}
 use Rattle.records.specs.Reading.{read_line, read_record, frames_in, left_in}
 use Rattle.report.specs.Digest.{count_lines, place_lines, digest}
 use Rattle.runs.specs.Histories.{digest_after}
-use Rattle.cases.specs.Case.{Holds, offered, outdone, printed}
+use Rattle.runs.proofs.Plain.{label_stands}
+use Rattle.cases.specs.Case.{Holds, offered, outdone, labelled, printed}
 use Rattle.cases.specs.Five.{shot, records_of_five, frames_of_five, outcomes_of_five, digest_of_five}
 use Rattle.cases.specs.Program.{weights, caps}
 use Rattle.cases.specs.Table.{CasesStand, rising}
@@ -28,6 +29,11 @@ rising_stands : Holds (outdone rising (3 ∷ []) 4 14)
 unfolding coverage partition weights caps
 rising_stands = (refl, (shot 4 0x4b 0 ∷ [], (((tt, tt), refl), refl, refl)))
 
+label_in_numbers : Holds (labelled 48 48 1536 2 4)
+label_in_numbers f adm xs es took gain told l b =
+    let p = label_stands f adm 48 xs es took gain told l b in
+    (p.kept, p.most (omega arith), p.worth, p.single (omega arith), p.none)
+
 infixr 20 ◌and◌
 abbrev ◌and◌ : {A B : Type 0} → A → B → A × B
 a and b = (a, b)
@@ -35,7 +41,7 @@ a and b = (a, b)
 pub cases_stand : CasesStand
 unfolding numbers_fault coverage uncovered steps_fault concave graphic laminar lies_in laminar_fault read_line
 cases_stand =
-    outcomes_stand and rising_stands and digest_stands
+    outcomes_stand and rising_stands and label_in_numbers and digest_stands
     and refl and refl and refl and refl
     and (refl, refl, refl)
     and (refl, refl) and (refl, refl)

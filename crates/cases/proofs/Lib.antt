@@ -1,1 +1,2 @@
 pub mod Cases
+mod Wrong

@@ -1,5 +1,6 @@
 -- What a worked case says, and when it holds. Assumes nothing.
-use Rattle.std.specs.Prelude.{◌≡◌, ℕ, ◌-◌, Bool, true, List, [], ◌∷◌, ◌++◌, map, length, replicate, Some, None, Ok, Err, Result}
+use Rattle.std.specs.Prelude.{◌≡◌, ℕ, ◌-◌, ◌*◌, ◌≤◌, Bool, true, List, [], ◌∷◌, ◌++◌, map, length, replicate, Some, None, Ok, Err, Result}
+use Rattle.std.specs.List.{slice_get}
 use Rattle.theory.specs.Bag.{Drawn}
 use Rattle.theory.specs.Replay.{frames, replay}
 use Rattle.frames.specs.declared.frame.Frame.{Frame}
@@ -19,6 +20,7 @@ use Rattle.spots.specs.Faults.{line_refusal}
 use Rattle.records.specs.Reading.{Amiss, read_line, line_fault_at}
 use Rattle.records.specs.Sheets.{over}
 use Rattle.picker.specs.Calls.{Called, offering, reading, printing, arrivals}
+use Rattle.picker.specs.Label.{Label, Beside}
 use Rattle.runs.specs.declared.call.Answer.{Answer}
 use Rattle.runs.specs.declared.call.Answer.TheVariants.{Offered, Texted, Printed}
 use Rattle.runs.specs.Runs.{answer_after, run_on}
@@ -73,6 +75,9 @@ pub data Case : Type 0 where
   offered : List Frame → List Outcome → Case
   -- frames offered to the program's picker, some of their places, and what the kept frames and those there are worth
   outdone : List Frame → List ℕ → ℕ → ℕ → Case
+  -- a size, and of any shift of that size, by its label: how many frames are kept, how many are ever accepted, and how
+  -- many times the worth of the kept frames those are worth, and a frame that may stand alone; all at most
+  labelled : ℕ → ℕ → ℕ → ℕ → ℕ → Case
   -- a text offered to the program's picker, its frames, and the digest that is printed then
   printed : List ℕ → List Frame → List ℕ → Case
   -- a size
@@ -99,6 +104,12 @@ Holds (offered xs os) = answers [] (map offering xs) ≡ map (λ o. Offered (Ok 
 Holds (outdone xs ps v w) =
     (worth (frames (replay worth admits places xs).kept) ≡ v)
     × ((c : List Frame) × (Drawn xs ps c × (admits c ≡ true) × (worth c ≡ w)))
+Holds (labelled n k m t u) =
+    (f : List Frame → ℕ) (adm : List Frame → Bool) (xs : List Frame) (es : List (Frame × ℕ)) (took gain told : ℕ)
+    → Label f adm n xs es took → Beside f adm n xs es took gain told
+    → (length es ≤ k) × (took ≤ m) × (f (replay f adm n xs).accepted ≤ t * f (frames es))
+    × ((p : ℕ) (x : Frame) → slice_get xs p ≡ Some x → adm (x ∷ []) ≡ true → f (x ∷ []) ≤ u * f (frames es))
+    × (es ≡ [] → took ≡ 0)
 Holds (printed text xs out) =
     (arrivals (reading text ∷ []) ≡ xs) × (answers [] (reading text ∷ []) ≡ Texted (Ok (length xs)) ∷ [])
     × (run_on worth admits places [] (reading text ∷ printing ∷ []) sheet None ≡ (over out sheet, Some (Printed (Ok (length out)))))

@@ -3,5 +3,6 @@ pub mod Forests
 pub mod Bases
 pub mod Parts
 pub mod Labels
+pub mod Roots
 pub mod Theorem
 pub mod Examples

@@ -9,7 +9,7 @@ use Rattle.frames.specs.declared.frame.Frame.{Frame}
 use Rattle.kept.specs.Tables.{frame_at, gain_at}
 use Rattle.exchange.specs.declared.outcome.Outcome.{Outcome}
 use Rattle.exchange.specs.declared.outcome.Outcome.TheVariants.{Empty, Kept, Swapped, Light, Barred}
-use Rattle.exchange.specs.Outcomes.{displaced, outcome_of, kept_after, accepted}
+use Rattle.exchange.specs.Outcomes.{displaced, outcome_of, kept_after, accepted, PlaceStands}
 
 module _ (adm : List Frame → Bool) (n : ℕ) (es : List (Frame × ℕ)) (x : Frame) (g : ℕ) (pos : 0 < g) where
   pub displaced_outcome : has_room adm n es x ≡ false → (o : Option ℕ) → LightestIs (may_take adm es x) (gains es) o → displaced es g o ≡ outcome_of adm n es x g
@@ -64,3 +64,20 @@ module _ (n : ℕ) (es : List (Frame × ℕ)) (g : ℕ) where
       by_place : (o : Option ℕ) → LightestIs (may_take adm es x) (gains es) o → Fitting (displaced es g o)
       by_place None is = tt
       by_place (Some p) is = cond_both (leb (2 * gain_at es p) g) (Swapped p g (frame_at es p)) (Light p g (gain_at es p)) Fitting (λ _. (refl, is.0)) (λ _. tt)
+
+module _ (adm : List Frame → Bool) (es : List (Frame × ℕ)) (x : Frame) where
+  -- the next place for a kept frame, and else the one that the replay finds
+  abbrev Replayed : Outcome → Type 0
+  Replayed Empty = Unit {0}
+  Replayed (Kept p g) = p ≡ length es
+  Replayed (Swapped p g l) = lightest (may_take adm es x) (gains es) ≡ Some p
+  Replayed (Light p g l) = lightest (may_take adm es x) (gains es) ≡ Some p
+  Replayed (Barred g) = lightest (may_take adm es x) (gains es) ≡ None
+
+  -- a place that stands is no other one
+  pub place_replayed : (o : Outcome) → PlaceStands adm es x o → Replayed o
+  place_replayed Empty h = tt
+  place_replayed (Kept p g) h = h
+  place_replayed (Swapped p g l) h = lightest_from (may_take adm es x) (gains es) (Some p) h
+  place_replayed (Light p g l) h = lightest_from (may_take adm es x) (gains es) (Some p) h
+  place_replayed (Barred g) h = lightest_from (may_take adm es x) (gains es) None h

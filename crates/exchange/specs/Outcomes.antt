@@ -33,14 +33,6 @@ accepted (Swapped p g l) = true
 accepted (Light p g l) = false
 accepted (Barred g) = false
 
--- the gain that an accepted frame adds to the count of all accepted gains
-abbrev pub told_by : Outcome → ℕ
-told_by Empty = 0
-told_by (Kept p g) = g
-told_by (Swapped p g l) = g
-told_by (Light p g l) = 0
-told_by (Barred g) = 0
-
 -- the place of an outcome: the next one for a kept frame, and else the lightest that counts, the lowest on a tie
 abbrev pub PlaceStands : (List Frame → Bool) → List (Frame × ℕ) → Frame → Outcome → Type 0
 PlaceStands adm es x Empty = Unit {0}

@@ -1,4 +1,4 @@
-ghost use Rattle.std.specs.Prelude.{◌≡◌, ◌<◌, ◌∷◌, length, Some as SomeOf};
+ghost use Rattle.std.specs.Prelude.{◌≡◌, ◌<◌, ◌≤◌, ◌∷◌, length, Some as SomeOf};
 ghost use Rattle.theory.specs.Lightest.{LightestIs};
 ghost use Rattle.theory.specs.Replay.{frames, gains, may_take, has_room};
 ghost use Rattle.exchange.specs.Outcomes.{displaced};
@@ -6,8 +6,7 @@ ghost use Rattle.exchange.specs.Search.{lighter_than};
 ghost use Rattle.kept.specs.Tables.{held};
 
 use crate::outcome::Outcome;
-use crate::rows::{self, ROW};
-use arrayvec::ArrayVec;
+use crate::rows;
 use frames::frame::Frame;
 use kept::size::Size;
 use kept::table::KeptTable;
@@ -23,8 +22,9 @@ pub(crate) struct Bid<'a, R> {
     pub(crate) frame: Frame,
     pub(crate) gain: u32,
     // the frame, and the kept frames behind it
-    pub(crate) row: ArrayVec<Frame, ROW>,
-    ghost lined: { row.items ≡ frame ∷ frames (held table.now) },
+    pub(crate) row: &'a [Frame],
+    ghost lined: { row.now ≡ frame ∷ frames (held table.now) },
+    ghost fits: { length row.now ≤ 49 },
 }
 
 impl<R: Matroid> Bid<'_, R> {
@@ -35,7 +35,7 @@ impl<R: Matroid> Bid<'_, R> {
         self.table.len() < size.get()
             && self
                 .matroid
-                .independent(self.row.as_slice(), places_below(self.row.len()))
+                .independent(self.row, places_below(self.row.len()))
     }
 
     // Whether the frame is independent with the kept ones but for the one at the place.
@@ -43,10 +43,8 @@ impl<R: Matroid> Bid<'_, R> {
         requires { place < length self.now.table.now }
         ensures { result ≡ may_take (R.Matroid.admits self.now.matroid.now) (held self.now.table.now) self.now.frame place }
     {
-        self.matroid.independent(
-            self.row.as_slice(),
-            rows::all_but(self.row.len(), place + 1),
-        )
+        self.matroid
+            .independent(self.row, rows::all_but(self.row.len(), place + 1))
     }
 
     // Whether the place is lighter than the best one so far.

@@ -1,14 +1,22 @@
-ghost use Rattle.std.specs.Prelude.{◌≡◌};
+ghost use Rattle.std.specs.Prelude.{◌≡◌, ◌<◌, ◌≤◌, ◌∷◌, length};
+ghost use Rattle.theory.specs.Replay.{frames};
 ghost use Rattle.exchange.specs.Outcomes.{outcome_of, PlaceStands};
 ghost use Rattle.kept.specs.Tables.{held};
 
 use crate::bid::Bid;
 use crate::outcome::Outcome;
-use crate::rows;
+use crate::rows::line_up;
+use arrayvec::ArrayVec;
+use frames::entry::MOST_KEPT;
 use frames::frame::Frame;
 use kept::size::Size;
 use kept::table::KeptTable;
 use matroids::matroid::Matroid;
+
+// How many frames a short row holds, and how many the longest: a newcomer, and the kept frames behind it.
+const SHORT: usize = 8;
+
+const LONGEST: usize = MOST_KEPT + 1;
 
 // What becomes of `x`, of the given gain, beside the kept frames. A frame of gain 0 asks the matroid nothing.
 pub fn judge<R: Matroid>(matroid: &R, size: Size, table: &KeptTable, x: Frame, gain: u32) -> Outcome
@@ -18,12 +26,41 @@ pub fn judge<R: Matroid>(matroid: &R, size: Size, table: &KeptTable, x: Frame, g
     if gain == 0 {
         return Outcome::Empty;
     }
+    // a new row has all its places cleared, so a short one serves where few frames are kept
+    if table.len() < SHORT {
+        let mut row = ArrayVec::<Frame, SHORT>::new();
+        line_up(x, table, &mut row);
+        judge_lined(matroid, size, table, x, gain, row.as_slice())
+    } else {
+        let mut row = ArrayVec::<Frame, LONGEST>::new();
+        line_up(x, table, &mut row);
+        judge_lined(matroid, size, table, x, gain, row.as_slice())
+    }
+}
+
+// The same of a frame with a gain, which stands before the kept frames in the row. In line at both calls, which spares the
+// outcome a copy.
+#[inline(always)]
+fn judge_lined<R: Matroid>(
+    matroid: &R,
+    size: Size,
+    table: &KeptTable,
+    x: Frame,
+    gain: u32,
+    row: &[Frame],
+) -> Outcome
+    requires gain { 0 < gain }
+    requires lined { row.now ≡ x ∷ frames (held table.now) }
+    requires fits { length row.now ≤ 49 }
+    ensures outcome { result ≡ outcome_of (R.Matroid.admits matroid.now) size.n (held table.now) x gain }
+    ensures place { PlaceStands (R.Matroid.admits matroid.now) (held table.now) x result }
+{
     let bid = Bid {
         matroid,
         table,
         frame: x,
         gain,
-        row: rows::behind(x, table),
+        row,
     };
     if bid.has_room(size) {
         return Outcome::Kept {

@@ -1,15 +1,11 @@
-ghost use Rattle.std.specs.Prelude.{◌≡◌, ◌-◌, ◌^◌, ◌<◌, ◌≤◌, ◌∷◌};
+ghost use Rattle.std.specs.Prelude.{◌≡◌, ◌-◌, ◌^◌, ◌<◌, ◌≤◌, [], ◌∷◌, length};
 ghost use Rattle.theory.specs.Replay.{frames};
 ghost use Rattle.kept.specs.Tables.{held};
 
 use arrayvec::ArrayVec;
-use frames::entry::MOST_KEPT;
 use frames::frame::Frame;
 use kept::table::KeptTable;
 use matroids::count::places_below;
-
-// The most frames of a row: a newcomer, and the kept frames behind it.
-pub(crate) const ROW: usize = MOST_KEPT + 1;
 
 // The set of the first `n` places but for `p`.
 pub(crate) fn all_but(n: usize, p: usize) -> u64
@@ -20,14 +16,14 @@ pub(crate) fn all_but(n: usize, p: usize) -> u64
     places_below(n) - (1 << p)
 }
 
-// `x`, and the kept frames behind it.
-pub(crate) fn behind(x: Frame, table: &KeptTable) -> ArrayVec<Frame, ROW>
-    ensures { result.items ≡ x ∷ frames (held table.now) }
+// Lines up `x`, and the kept frames behind it, in an empty row.
+pub(crate) fn line_up<const N: usize>(x: Frame, table: &KeptTable, row: &mut ArrayVec<Frame, N>)
+    requires empty { row.old.items ≡ [] }
+    requires room { length table.now < N }
+    ensures { row.new.items ≡ x ∷ frames (held table.now) }
 {
-    let mut row = ArrayVec::new();
     row.push(x);
     for entry in table.entries() {
         row.push(entry.frame);
     }
-    row
 }

@@ -1,2 +1,3 @@
 mod Exported
 pub mod Served
+mod Plain

@@ -5,3 +5,4 @@ mod number;
 pub mod opened;
 pub mod run;
 pub mod settings;
+pub mod stands;

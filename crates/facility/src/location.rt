@@ -1,10 +1,12 @@
-ghost use Rattle.std.specs.Prelude.{◌≡◌, ℕ, ◌<◌, max, length, replicate, slice_index};
-ghost use Rattle.kinds.specs.Objectives.{likeness as likeness_at, facility, facility_above};
+ghost use Rattle.std.specs.Prelude.{◌≡◌, ℕ, ◌<◌, length, replicate, slice_index};
+ghost use Rattle.kinds.specs.Objectives.{likeness, facility, facility_above};
 ghost use Rattle.kinds.proofs.Located.{above_keeps};
 ghost use Rattle.kinds.proofs.Objectives.{facility_keeps};
 
 use frames::frame::Frame;
 use objectives::objective::Objective;
+
+const VIEWS: usize = 64;
 
 // Facility location: the value of a list of frames is the sum, over the 64 views, of the greatest likeness that a frame
 // of it has there. View v of look r stands at 64 · r + v in the caller's table, and a place past its end counts 0.
@@ -46,15 +48,16 @@ impl Objective for FacilityLocation<'_> {
 
     fn gain(&self, x: &Frame) -> u32 {
         let mut gain = 0;
-        for (v, best) in self.best.iter().enumerate() {
-            gain += likeness(self.table, x.look, v).saturating_sub(*best) as u32;
+        for (likeness, best) in row_of(self.table, x.look).iter().zip(&self.best) {
+            gain += likeness.saturating_sub(*best) as u32;
         }
         gain
     }
 
     fn add(&mut self, x: &Frame) {
+        let row = row_of(self.table, x.look);
         for (v, best) in self.best.iter_mut().enumerate() {
-            *best = (*best).max(likeness(self.table, x.look, v));
+            *best = (*best).max(row.get(v).copied().unwrap_or(0));
         }
     }
 
@@ -63,10 +66,11 @@ impl Objective for FacilityLocation<'_> {
     }
 }
 
-// How like view v the frames of a look are.
-fn likeness(table: &[u16], look: u8, v: usize) -> u16
-    requires { v < 64 }
-    ensures { result ≡ likeness_at table.now look v }
+// The likenesses of a look, fewer than 64 where the table ends.
+fn row_of(table: &[u16], look: u8) -> &[u16]
+    ensures { (v : ℕ) → v < 64 → slice_index result.now v ≡ likeness table.now look v }
 {
-    table.get(64 * look as usize + v).copied().unwrap_or(0)
+    let start = (VIEWS * look as usize).min(table.len());
+    let end = (start + VIEWS).min(table.len());
+    &table[start..end]
 }

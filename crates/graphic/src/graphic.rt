@@ -1,8 +1,8 @@
-ghost use Rattle.std.specs.Prelude.{◌≡◌, map, length};
+ghost use Rattle.std.specs.Prelude.{◌≡◌, ◌≤◌, ℕ, min, max, length, slice_index};
 ghost use Rattle.std.specs.List.{range_with_len};
 ghost use Rattle.cycles.specs.Graphs.{graphic};
-ghost use Rattle.cycles.specs.Labels.{merged, joins_by};
-ghost use Rattle.cycles.proofs.Labels.{joins_none};
+ghost use Rattle.cycles.specs.Labels.{merged, joins, root};
+ghost use Rattle.std.proofs.Common.{refl};
 ghost use Rattle.cycles.proofs.Theorem.{graphic_matroid};
 ghost use Rattle.frames.proofs.Equality.{same-frames};
 
@@ -25,11 +25,13 @@ impl Matroid for GraphicMatroid {
     }
 }
 
-// A label for each station: the frames taken so far join the stations of equal labels.
+// A label for each station: the station or a smaller one. From label to label each station leads to a root, which is its
+// own label. The frames taken so far join the stations of one root.
 #[derive(Drop)]
 struct Labels {
     labels: [u8; 256],
     ghost count: { length labels ≡ 256 },
+    ghost falling: { (i : ℕ) → slice_index labels i ≤ i },
 }
 
 impl Labels {
@@ -44,23 +46,34 @@ impl Labels {
         Labels { labels }
     }
 
-    // Each label b becomes a.
-    fn merge(&mut self, a: u8, b: u8)
-        ensures { self.new.labels ≡ map (merged a b) self.old.labels }
+    // The root that the station leads to.
+    fn root(&self, station: u8) -> u8
+        ensures value { result ≡ root self.now.labels station }
+        ensures own { slice_index self.now.labels result ≡ result }
     {
-        for label in self.labels.iter_mut() {
-            *label = relabelled(*label, a, b);
+        let mut here = station;
+        while self.labels[here as usize] != here {
+            here = self.labels[here as usize];
         }
+        here
+    }
+
+    // The greater of two roots leads to the smaller one.
+    fn merge(&mut self, a: u8, b: u8)
+        requires { (slice_index self.old.labels a ≡ a) × (slice_index self.old.labels b ≡ b) }
+        ensures { (w : ℕ) → root self.new.labels w ≡ merged (min a b) (max a b) (root self.old.labels w) }
+    {
+        self.labels[a.max(b) as usize] = a.min(b);
     }
 }
 
 impl Room for Labels {
-    ghost admits = { λ room. joins_by (λ x. x.tail) (λ x. x.head) room.labels };
+    ghost admits = { λ room. joins (λ x. x.tail) (λ x. x.head) (root room.labels) };
 
-    // A frame fits if it joins stations of different labels, which it makes one.
+    // A frame fits if it joins stations of different roots, which it makes one.
     fn takes(&mut self, x: &Frame) -> bool {
-        let a = self.labels[x.tail as usize];
-        let b = self.labels[x.head as usize];
+        let a = self.root(x.tail);
+        let b = self.root(x.head);
         if a == b {
             return false;
         }
@@ -68,12 +81,5 @@ impl Room for Labels {
         true
     }
 
-    ghost nothing = { λ room. joins_none (λ x. x.tail) (λ x. x.head) room.labels };
-}
-
-// A label after the label b has become a.
-fn relabelled(label: u8, a: u8, b: u8) -> u8
-    ensures { result ≡ merged a b label }
-{
-    if label == b { a } else { label }
+    ghost nothing = { λ room. refl };
 }

@@ -1,3 +1,4 @@
 mod InCommon
 mod Numbers
+mod Fronts
 mod Lined

@@ -1,11 +1,11 @@
 -- A line of a text that was read step by step: the key, the line feed, the value.
-use Rattle.std.proofs.Common.{◌≡◌, ℕ, ◌+◌, ◌<◌, ◌≤◌, min, true, false, eqb, List, length, take, drop, Some, None, Ok, Err, Option, Result, MatchOption, MatchBool, refl, sym, ap, ◌∙◌, subst, ⊎_elim, arith, length-drop, length-take, nat_le}
+use Rattle.std.proofs.Common.{◌≡◌, ℕ, ◌+◌, ◌<◌, ◌≤◌, min, true, false, eqb, List, [], ◌∷◌, ◌++◌, length, take, drop, Some, None, Ok, Err, Option, Result, MatchOption, MatchBool, refl, sym, ap, ◌∙◌, subst, ⊎_elim, append_assoc, arith, length-drop, length-take, nat_le}
 use Rattle.std.proofs.lemmas.Bool.{MatchBool-at_true, MatchBool-at_false, le-leb, lt-leb, cases_lt}
 use Rattle.std.proofs.lemmas.List.Prefix.{front_fits}
-use Rattle.std.proofs.lemmas.List.{drop-drop, length-take-le}
+use Rattle.std.proofs.lemmas.List.{drop-drop, length-take-le, append_cancel_left, append_cancel_right}
 use Rattle.std.specs.List.{common_prefix_len}
 use Rattle.spots.specs.Faults.{spot}
-use Rattle.records.specs.Format.{key_bytes, longest, highest}
+use Rattle.records.specs.Format.{key_bytes, longest, highest, shown_value}
 use Rattle.records.specs.Of.{key_of, digits_of, behind}
 use Rattle.lines.specs.Lines.{Numbered, Taken, Judged, PassedAs, LineRead, LineMeans}
 use Rattle.records.specs.Reading.{amiss, bad_form, over, due, line_of, key_amiss, end_amiss, before_feed, number_in, base_of, form_of, judged, read_value, read_line}
@@ -56,10 +56,6 @@ module _ (k : Key) (s rest : List ℕ) (there : common_prefix_len eqb (key_bytes
   value_place text at from =
       let f = front_fits s (key_bytes k) _ (front_common (key_bytes k) s there) in
       omega (arith, f, key_some k, ap length after, length-drop (length (key_bytes k)) s, ap length from, length-drop at text)
-
--- the line feed that was found, in the window of the key due
-pub due_found : (k : Key) (rest : List ℕ) (n most : ℕ) → most ≡ longest k → (n ≡ before_feed (take (most + 1) rest)) × (n < length (take (most + 1) rest)) → (n ≡ before_feed (take (longest k + 1) rest)) × (n < length (take (longest k + 1) rest))
-due_found k rest n most e h = subst (λ (m : ℕ). (n ≡ before_feed (take (m + 1) rest)) × (n < length (take (m + 1) rest))) e h
 
 -- the line feed stands within the window, and so within the text
 pub feed_within : (k : Key) (rest : List ℕ) (n : ℕ) → n < length (take (longest k + 1) rest) → (n ≤ 16) × (n < length rest)
@@ -134,10 +130,20 @@ module _ (k : Key) (text : List ℕ) (at n : ℕ) (s rest : List ℕ) (from : s 
     pub line_read : Judged l spot_here r → LineRead k text at rec start r
     line_read j = line_numbered (digits_of l).number refl j
 
+-- the digits of a line that was read are those that its value is printed with
+digits_printed : (k : Key) (text : List ℕ) (at v : ℕ) (l : Line) → PassedAs k text at v l → (digits_of l).bytes.now ≡ shown_value k v
+digits_printed k text at v l p =
+    let rest = drop (behind (digits_of l)) text in
+    let bytes = (digits_of l).bytes.now in
+    let value = shown_value k v in
+    let joined = append_assoc (key_bytes k) (value ++ (10 ∷ [])) rest ∙ ap (λ (t : List ℕ). key_bytes k ++ t) (append_assoc value (10 ∷ []) rest) in
+    let printed = (line_shown k (drop at text) v rest p.reads).1 ∙ joined in
+    append_cancel_right bytes value (10 ∷ rest) (append_cancel_left (key_bytes k) (bytes ++ (10 ∷ rest)) (value ++ (10 ∷ rest)) (sym p.shows ∙ printed))
+
 -- a line was read just where it is printed so
 pub line_means : (k : Key) (text : List ℕ) (at number start : ℕ) (r : Result Line LineFault) → LineRead k text at number start r → LineMeans k text at r
 line_means k text at number start (Ok l) p =
     let h = line_shown k (drop at text) p.0 (drop (behind (digits_of l)) text) p.1.reads in
-    (p.0, p.1.number, h.0, h.1)
+    (p.0, p.1.number, digits_printed k text at p.0 l p.1, h.0, h.1)
 line_means k text at number start (Err f) p =
     λ v rest low e. cc (ap (read_line k) e ∙ read_line_shown k v rest low, p.1)

@@ -7,3 +7,4 @@ mod number;
 pub mod place;
 pub mod read_line;
 mod value;
+mod written;

@@ -8,6 +8,7 @@ use spots::fault::LineFault;
 
 impl Due {
     // Where the key due is not at the front of `s`, which starts where the line does.
+    #[cold]
     pub(crate) fn key_fault(self, s: &[u8]) -> LineFault
         requires fits { 0 < length s.now → self.at + length s.now < 2 ^ 64 }
         ensures { result ≡ line_fault_at self.place.«record» self.place.start self.key self.at (key_amiss (key_bytes self.key) s.now) }
@@ -21,6 +22,7 @@ impl Due {
     }
 
     // Where no line feed stands among the first bytes of `rest`, which follows the key.
+    #[cold]
     pub(crate) fn end_fault(self, rest: &[u8]) -> LineFault
         requires { self.at + length (key_bytes self.key) < 2 ^ 64 }
         ensures { result ≡ line_fault_at self.place.«record» self.place.start self.key self.at (end_amiss (due self.key) rest.now) }

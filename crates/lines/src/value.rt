@@ -1,23 +1,19 @@
-ghost use Rattle.std.specs.Prelude.{ℕ, ◌≤◌, length};
-ghost use Rattle.lines.specs.Lines.{Taken, Judged};
+ghost use Rattle.std.specs.Prelude.{◌≡◌};
+ghost use Rattle.lines.specs.Lines.{Judged};
+ghost use Rattle.records.specs.Of.{key_of, digits_of};
 
-use crate::number::{decimal, hexadecimal};
 use frames::frame::LANES;
 use records::digits::Digits;
 use records::key::Key;
 use records::line::Line;
 use spots::fault::{LineFault, Spot};
 
-// The line of `key` whose value is `bytes`, which start at byte `at`.
-pub(crate) fn taken(key: Key, bytes: &[u8], at: usize) -> Line<'_>
-    requires { length bytes.now ≤ 16 }
-    ensures { Taken key bytes.now at result }
+// The line of `key` with its digits.
+#[inline(always)]
+pub(crate) fn taken(key: Key, digits: Digits<'_>) -> Line<'_>
+    ensures kind { key_of result ≡ key }
+    ensures digits { digits_of result ≡ digits.entry }
 {
-    let number = match key {
-        Key::Marks => hexadecimal(bytes),
-        _ => decimal(bytes),
-    };
-    let digits = Digits { bytes, at, number };
     match key {
         Key::Number => Line::Number(digits),
         Key::Marks => Line::Marks(digits),
@@ -30,6 +26,7 @@ pub(crate) fn taken(key: Key, bytes: &[u8], at: usize) -> Line<'_>
 }
 
 // Judges a value that stands at `spot` by its form, and then by the highest number of its kind.
+#[inline(always)]
 pub(crate) fn judge(line: Line<'_>, spot: Spot) -> Result<Line<'_>, LineFault>
     ensures { Judged line.entry spot result }
 {

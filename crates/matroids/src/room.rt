@@ -21,14 +21,17 @@ pub trait Room: Drop {
 pub fn takes_chosen<R: Room>(mut room: R, frames: &[Frame], places: u64) -> bool
     ensures { result ≡ R.admits room (chosen frames.now places) }
 {
-    // the lowest bit of `rest` is the place of x; a shift of `places` by an index would be no plainer: the list would have
-    // to be cut to 64 first
     let mut rest = places;
-    for x in frames {
-        if rest % 2 == 1 && !room.takes(x) {
+    while rest != 0 {
+        // past the end of the list no place has a frame
+        let Some(x) = frames.get(rest.trailing_zeros() as usize) else {
+            break;
+        };
+        if !room.takes(x) {
             return false;
         }
-        rest /= 2;
+        // without its lowest place
+        rest &= rest - 1;
     }
     true
 }

@@ -1,4 +1,4 @@
-ghost use Rattle.std.specs.Prelude.{◌≡◌, ℕ, ◌≤◌, length, IfOk, MatchResult, slice_index};
+ghost use Rattle.std.specs.Prelude.{◌≡◌, ℕ, ◌-◌, ◌≤◌, length, take, drop, IfOk, MatchResult, slice_index};
 ghost use Rattle.std.specs.Result.{result_err};
 ghost use Rattle.kinds.specs.Objectives.{coverage, uncovered};
 ghost use Rattle.frames.specs.Settings.{numbers_fault};
@@ -54,10 +54,17 @@ impl Objective for Coverage {
 
     fn gain(&self, x: &Frame) -> u32 {
         let shown = x.marks & !self.covered;
+        if shown == 0 {
+            return 0;
+        }
+        // from the first new class to the last
+        let first = shown.trailing_zeros() as usize;
+        let end = CLASSES - shown.leading_zeros() as usize;
+        let weights = between(&self.weights, first, end);
         let mut gain = 0;
         // a rule of the project: a loop over the weights with their index, not a chain
-        for (i, weight) in self.weights.iter().enumerate() {
-            if (shown >> i) % 2 == 1 {
+        for (i, weight) in weights.iter().enumerate() {
+            if (shown >> (first + i)) % 2 == 1 {
                 gain += *weight;
             }
         }
@@ -71,4 +78,12 @@ impl Objective for Coverage {
     fn reset(&mut self) {
         self.covered = 0;
     }
+}
+
+// The weights from one class up to another.
+fn between(weights: &[u32], first: usize, end: usize) -> &[u32]
+    requires { (first ≤ end) × (end ≤ length weights.now) }
+    ensures { result.now ≡ take (end - first) (drop first weights.now) }
+{
+    &weights[first..end]
 }

@@ -40,6 +40,7 @@ struct Lines<'a> {
 impl Lines<'_> {
     // The value of the next line, where `key` is due.
     // The number is never none: only where a value is written as its kind is, the line is read.
+    #[inline(always)]
     fn value(&mut self, key: Key) -> Result<u64, LineFault>
         ensures { MatchResult result (λ v. LinePassed key self.old v self.new) (λ f. Unread key self.old.text.now self.old.at self.old.place.«record» self.old.place.start f) }
     {

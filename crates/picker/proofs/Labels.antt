@@ -22,7 +22,7 @@ use Rattle.picker.specs.declared.picker.Picker.{Picker}
 use Rattle.picker.specs.Entries.{total}
 use Rattle.picker.specs.Calls.{Called, offering, reading, clearing, arrive, arrive_by, arrivals}
 use Rattle.picker.specs.Met.{nothing, Met, Labelled, Bounded, Promises}
-use Rattle.picker.specs.Offers.{After, Advanced, Answered, Offered, Emptied, refusal_of}
+use Rattle.picker.specs.Offers.{After, Advanced, Answered, Offered, Opened, Emptied, refusal_of}
 use Rattle.picker.specs.Texts.{taken_in, text_answer, TextOffered}
 use Rattle.picker.proofs.Onward.{after_more}
 use Rattle.objectives.specs.declared.objective.Objective.{Ghosts as Objective}
@@ -59,6 +59,10 @@ module _ {W R : Type 0} (O : Objective W) (M : Matroid R) where
 
   pub met_none : (h : List Called) (p : Picker W R) → arrivals h ≡ [] → held p.table ≡ [] → p.took ≡ 0 → p.seen ≡ 0 → p.gain ≡ 0 → p.told ≡ 0 → O.value p.objective [] ≡ 0 → ((s : List Frame) → O.residual p.objective s ≡ O.value p.objective s) → Met O M h p
   met_none h p e k t n g d z l = moved refl refl refl e (record { kept = k; took = t; seen = n; gain = g; tells = d; size = refl; matroid = refl; left = λ s. l s ∙ omega (arith, z) })
+
+  pub met_open : (n : ℕ) (objective : W) (matroid : R) (p : Picker W R) → Opened O n objective matroid p → Met O M [] p
+  met_open n objective matroid p o =
+      met_none [] p refl o.kept o.took o.seen o.gain o.tells (O.laws p.objective).whole.submodular.nothing (λ s. o.left s ∙ sym (o.whole s))
 
   met_advanced : (xs ys : List Frame) (p q : Picker W R) → After O M (O.value p.objective) p.matroid p.size.n nothing xs p → Advanced O M p ys q → After O M (O.value q.objective) q.matroid q.size.n nothing (xs ++ ys) q
   met_advanced xs ys p q h k =

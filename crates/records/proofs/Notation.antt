@@ -18,7 +18,7 @@ pub record Notation (d : Due) (write : ℕ → List ℕ) : Type 0 where
   pub plain : (ds rest : List ℕ) → d.formed ds ≡ true → before_feed (ds ++ (10 ∷ rest)) ≡ length ds
 
 -- a shorter part has the same first line feed
-before-take : (m : ℕ) (s : List ℕ) → before_feed s < m → before_feed (take m s) ≡ before_feed s
+pub before-take : (m : ℕ) (s : List ℕ) → before_feed s < m → before_feed (take m s) ≡ before_feed s
 before-take m s h =
     let feed : ℕ → Bool = λ c. c == 10 in
     let n = before_feed s in

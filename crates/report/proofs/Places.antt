@@ -5,7 +5,8 @@ use Rattle.records.specs.Format.{shown}
 use Rattle.records.proofs.Roundtrip.{read_decimal, read_shown}
 use Rattle.report.specs.declared.counts.Counts.{Counts}
 use Rattle.frames.specs.declared.entry.Entry.{Entry}
-use Rattle.report.specs.Digest.{decimal_line, count_lines, place_lines, places_from, digest, ReadsBack}
+use Rattle.frames.specs.declared.frame.Frame.{Frame}
+use Rattle.report.specs.Digest.{decimal_line, count_lines, place_lines, places_from, digest, RecordBack, ReadsBack}
 
 places_split : (es : List Entry) (j i : ℕ) → places_from j es ≡ places_from j (take i es) ++ places_from (j + i) (drop i es)
 places_split es j zero = ap (λ k. places_from k es) (sym (add-zero j))
@@ -22,6 +23,9 @@ place_parts i e back =
     let place = decimal_line (codes "place=") i in
     let worth = decimal_line (codes "worth=") e.gain in
     append_assoc place (worth ++ shown e.frame) back ∙ ap (λ t. place ++ t) (append_assoc worth (shown e.frame) back)
+
+record_back : (x : Frame) → RecordBack x
+record_back x range rest = read_shown x range rest
 
 pub reads_back : (c : Counts) (es : List Entry) → length es < 2 ^ 64 → ReadsBack c es
 unfolding digest
@@ -40,5 +44,5 @@ reads_back c es few i d h low range =
       parts = ap (λ t. count_lines c ++ t) (split ∙ ap (λ t. front ++ t) (next ∙ place_parts i e back)) ∙ sym (append_assoc (count_lines c) front _);
       place_reads = read_decimal (codes "place=") 20 18446744073709551615 (omega arith) (omega arith) (omega arith) i worth (omega arith);
       worth_reads = read_decimal (codes "worth=") 10 4294967295 (omega arith) (omega arith) (omega arith) e.gain (shown e.frame ++ back) low;
-      frame_reads = read_shown e.frame range back;
+      frame_reads = record_back e.frame range back;
     }

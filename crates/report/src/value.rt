@@ -3,7 +3,7 @@ ghost use Rattle.records.specs.Format.{hexadecimal};
 ghost use Rattle.report.specs.Lines.{written};
 
 use crate::written::Written;
-use itoa::Buffer;
+use itoa::write_digits;
 
 // The value of a line, and how it is written: with as few decimal digits as it takes, or with sixteen hexadecimal ones.
 #[derive(Clone, Copy)]
@@ -25,7 +25,12 @@ impl Written for Value {
 
     fn put(&self, out: &mut [u8]) -> Option<usize> {
         match *self {
-            Value::Decimal(n) => Buffer::new().format(n).as_bytes().put(out),
+            Value::Decimal(n) => {
+                let len = decimal_len(n);
+                let (front, _) = out.split_at_mut_checked(len)?;
+                write_digits(n, front, len);
+                Some(len)
+            }
             Value::Hexadecimal(n) => hexadecimal(n).as_slice().put(out),
         }
     }

@@ -1,3 +1,3 @@
 mod Replies
 mod Turns
-mod Plain
+pub mod Plain

@@ -1,11 +1,11 @@
 -- The laws hold of a small case, and a replay of it computes. Assumes nothing.
-use Rattle.std.proofs.Common.{◌≡◌, ℕ, suc, min, Bool, eqb, leb, List, [], ◌∷◌, length, sum_by, refl, arith, nat_eq, nat_le}
+use Rattle.std.proofs.Common.{◌≡◌, ℕ, suc, ◌*◌, ◌≤◌, min, Bool, true, eqb, leb, List, [], ◌∷◌, length, sum_by, refl, arith, nat_eq, nat_le}
 use Rattle.std.proofs.lemmas.List.Sums.{sum_by-cons}
 use Rattle.std.proofs.lemmas.Bool.{eqb-true, eq-eqb, leb-true, le-leb}
-use Rattle.theory.specs.Bag.{Same}
+use Rattle.theory.specs.Bag.{Same, Choice}
 use Rattle.theory.specs.Laws.{Submodular, MatroidLaws}
-use Rattle.theory.specs.Replay.{replay}
-use Rattle.theory.specs.Promise.{Promised}
+use Rattle.theory.specs.Replay.{State, frames, replay}
+use Rattle.theory.specs.Promise.{gain, Promised}
 use Rattle.theory.proofs.Orders.{orderless_after, orderless_sum_by, orderless_length, longer_has_more}
 use Rattle.theory.proofs.Theorem.{stands}
 
@@ -46,3 +46,7 @@ tied = refl
 
 small_case : (arrivals : List ℕ) → Promised total two 2 arrivals (replay total two 2 arrivals)
 small_case arrivals = stands ℕ eqb total two 2 same_numbers total_laws two_laws arrivals
+
+-- no two arrivals are worth more than four times what is kept, or than four times its gains
+small_quarter : (arrivals c : List ℕ) (st : State ℕ) → Promised total two 2 arrivals st → Choice arrivals 2 c → two c ≡ true → (total c ≤ 4 * total (frames st.kept)) × (total c ≤ 4 * gain st)
+small_quarter arrivals c st p h ok = (p.quarter c h ok, omega (arith, p.bound c h ok, p.twice))

@@ -1,40 +1,32 @@
-use Rattle.std.proofs.Common.{ℕ, ◌+◌, ◌*◌, ◌^◌, ◌<◌, map, drop, sym, ap, ◌∙◌, subst, arith}
-use Rattle.std.proofs.lemmas.List.{at_drop_all}
-use Rattle.std.specs.Int.Digits.{number_from_digits_after}
-use Rattle.records.specs.Reading.{digit, digits_in}
-use Rattle.lines.proofs.Numbers.{no_digit, digits_more, number_more, four_bits, sixty_four}
+use Rattle.std.proofs.Common.{◌≡◌, ℕ, ◌<◌, true, false, eqb, List, length, get_or, Some, None, Option, refl, sym, ◌∙◌, subst, arith}
+use Rattle.std.proofs.lemmas.Bool.{eqb-true, eqb-false}
+use Rattle.std.specs.Borrow.{Bor}
+use Rattle.std.specs.Option.{option_eq}
+use Rattle.std.specs.Slice.{IsItemAt}
+use Rattle.lines.specs.Lines.{Leading}
+use Rattle.lines.proofs.Fronts.{found, missed}
 use Rattle.lines.proofs.number.number_in.Goals as goal
 
-pub returns-in_err-d : goal.returns-in_err-d
-returns-in_err-d c =
-    rw c.from_residual.ensures (sym c.loop-b.invariant.0 ∙ no_digit c.args.base c.args.bytes.now c.loop-b.b-index c.loop-b-test.true c.in_err-d.ensures)
+-- the byte that was got is a line feed just where one stands there
+is_feed : (s : List ℕ) (n : ℕ) (r : Option (Bor ℕ)) (feed : Bor ℕ) → IsItemAt s n r → feed.now ≡ 10 → true ≡ option_eq (λ x y. eqb x.now y.now) r (Some feed) → (n < length s) × (get_or s n 0 ≡ 10)
+is_feed s n None feed h ten e = cc
+is_feed s n (Some x) feed h ten e = (h.3.0, sym (h.4 (omega arith) 0) ∙ (eqb-true x.now feed.now (sym e) ∙ ten))
 
-small : (c : goal.In_ok-d) → c.loop-b.n * c.args.base + c.in_ok-d.d < 2 ^ (4 * (c.loop-b.b-index + 1))
-small c = four_bits c.loop-b.n c.args.base c.in_ok-d.d c.loop-b.b-index c.loop-b.invariant.2 c.in_ok-d.ensures.1 c.requires.base
+no_feed : (s : List ℕ) (n : ℕ) (r : Option (Bor ℕ)) (feed : Bor ℕ) → IsItemAt s n r → feed.now ≡ 10 → false ≡ option_eq (λ x y. eqb x.now y.now) r (Some feed) → n < length s → get_or s n 0 ≡ 10 → ⊥
+no_feed s n None feed h ten e l there = omega (arith, h.3, l)
+no_feed s n (Some x) feed h ten e l there = eqb-false x.now feed.now (sym e) (h.4 (omega arith) 0 ∙ (there ∙ sym ten))
 
-room : (c : goal.In_ok-d) → c.loop-b.n * c.args.base + c.in_ok-d.d < 2 ^ 64
-room c = omega (arith, small c, sixty_four c.loop-b.b-index (omega arith))
+pub returns-then-eq : goal.returns-then-eq
+returns-then-eq c =
+    let r = c.leading-n.result in
+    let s = c.args.s.now in
+    let h = subst (λ (t : List ℕ). Leading c.args.base t r) c.front.ensures c.leading-n.ensures in
+    let f = is_feed s r.0 c.get.result _ c.get.ensures.lookup refl c.if-eq.ensures in
+    found c.args.base c.requires.base c.args.most s r h f.0 f.1
 
-pub overflow_mul-n : goal.overflow_mul-n
-overflow_mul-n c = omega (arith, room c)
-
-pub overflow_add-n : goal.overflow_add-n
-overflow_add-n c = omega (arith, room c)
-
-pub loop-b-preserved : goal.loop-b-preserved
-loop-b-preserved c =
-    let bs = c.args.bytes.now in
-    let i = c.loop-b.b-index in
-    let h = c.in_ok-d.ensures in
-    let d = digits_more c.args.base bs i c.loop-b-test.true (subst (λ (d : ℕ). d < c.args.base) h.0 h.1) in
-    let n = number_more c.args.base bs i c.loop-b-test.true c.loop-b.n in
-    let e = ap (λ (x : ℕ). number_from_digits_after c.args.base (c.loop-b.n * c.args.base + x) (map digit (drop (i + 1) bs))) h.0 in
-    (d ∙ c.loop-b.invariant.0, e ∙ (n ∙ c.loop-b.invariant.1), small c)
-
-pub returns : goal.returns
-returns c =
-    let bs = c.args.bytes.now in
-    let i = c.loop-b.b-index in
-    let d = at_drop_all (digits_in c.args.base) bs i c.loop-b-test.false in
-    let n = at_drop_all (λ t. number_from_digits_after c.args.base c.loop-b.n (map digit t)) bs i c.loop-b-test.false in
-    (sym c.loop-b.invariant.0 ∙ d, sym n ∙ c.loop-b.invariant.1)
+pub returns-else-eq : goal.returns-else-eq
+returns-else-eq c =
+    let r = c.leading-n.result in
+    let s = c.args.s.now in
+    let h = subst (λ (t : List ℕ). Leading c.args.base t r) c.front.ensures c.leading-n.ensures in
+    missed c.args.base c.requires.base c.args.most s r h (no_feed s r.0 c.get.result _ c.get.ensures.lookup refl c.if-eq.ensures)

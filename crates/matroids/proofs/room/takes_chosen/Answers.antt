@@ -1,26 +1,28 @@
-use Rattle.std.proofs.Common.{◌/◌, ◌+◌, ◌&&◌, drop, sym, ap, ◌∙◌}
+use Rattle.std.proofs.Common.{◌≡◌, ◌-◌, [], bit_and, sym, ap, ◌∙◌, arith}
+use Rattle.std.proofs.lemmas.Nat.Bits.{bit_at-zero}
+use Rattle.std.proofs.lemmas.Bool.{ltb-false}
 use Rattle.matroids.specs.Chosen.{chosen}
-use Rattle.matroids.proofs.Chosen.{chosen_in, chosen_out, chosen-all}
+use Rattle.matroids.proofs.Chosen.{chosen_next, chosen_none, chosen_past}
 use Rattle.matroids.proofs.room.takes_chosen.Goals as goal
-use Rattle.matroids.proofs.room.takes_chosen.Goals.{else-rest-eq1-via-then-rest-eq1+else-not-takes, else-rest-eq1-via-else-rest-eq1}
+use Rattle.matroids.proofs.room.takes_chosen.Goals.{else-loop-rest-test, then-loop-rest-test+in_default}
 
 pub returns-then-not-takes : goal.returns-then-not-takes
 returns-then-not-takes g c =
-    let rest = chosen (drop (c.loop-x.x-index + 1) c.args.frames.now) (c.loop-x.rest / 2) in
-    let here = chosen_in (g.R.Room.admits c.loop-x.room) c.args.frames.now c.loop-x.x-index c.loop-x.rest _ c.loop-x-test.true c.if-rest-eq1.true in
-    sym (here ∙ c.takes.ensures rest ∙ ap (λ b. b && g.R.Room.admits c.takes.new.self rest) c.if-not-takes.true) ∙ c.loop-x.invariant
+    let got = c.in-Some.ensures.lookup.3 in
+    let next = chosen_next c.args.frames.now c.loop-rest.rest (omega arith) (omega arith) c.in-Some.x.now got.0 (got.1 c.in-Some.x.now) in
+    sym (ap (g.R.Room.admits c.loop-rest.room) next ∙ c.if-not-takes.ensures (chosen c.args.frames.now (bit_and c.loop-rest.rest (c.loop-rest.rest - 1)))) ∙ c.loop-rest.invariant
 
-pub loop-x-preserved : goal.loop-x-preserved
-loop-x-preserved g c =
-    let admits = g.R.Room.admits in
-    let rest = chosen (drop (c.loop-x.x-index + 1) c.args.frames.now) (c.loop-x.rest / 2) in
-    elim c.else-rest-eq1.branch [
-      | else-rest-eq1-via-then-rest-eq1+else-not-takes w ↦
-          let here = chosen_in (admits c.loop-x.room) c.args.frames.now c.loop-x.x-index c.loop-x.rest _ c.loop-x-test.true w.if-rest-eq1.true in
-          ap (λ r. admits r rest) w.room-is ∙ sym (here ∙ w.takes.ensures rest ∙ ap (λ b. b && admits w.takes.new.self rest) w.if-not-takes.false) ∙ c.loop-x.invariant
-      | else-rest-eq1-via-else-rest-eq1 w ↦
-          ap (λ r. admits r rest) w.room-is ∙ sym (chosen_out (admits c.loop-x.room) c.args.frames.now c.loop-x.x-index c.loop-x.rest c.loop-x-test.true w.if-rest-eq1.false) ∙ c.loop-x.invariant
-    ]
+pub loop-rest-preserved : goal.loop-rest-preserved
+loop-rest-preserved g c =
+    let got = c.in-Some.ensures.lookup.3 in
+    let next = chosen_next c.args.frames.now c.loop-rest.rest (omega arith) (omega arith) c.in-Some.x.now got.0 (got.1 c.in-Some.x.now) in
+    sym (ap (g.R.Room.admits c.loop-rest.room) next ∙ c.if-not-takes.ensures (chosen c.args.frames.now (bit_and c.loop-rest.rest (c.loop-rest.rest - 1)))) ∙ c.loop-rest.invariant
 
 pub returns : goal.returns
-returns g c = sym (chosen-all (g.R.Room.admits c.loop-x.room) c.args.frames.now c.loop-x.x-index c.loop-x.rest c.loop-x-test.false ∙ g.met.R.Room.nothing c.loop-x.room) ∙ c.loop-x.invariant
+returns g c =
+    let none : chosen c.args.frames.now c.loop-rest.rest ≡ [] =
+    elim c.loop-rest-test.branch [
+      | else-loop-rest-test w ↦ ap (chosen c.args.frames.now) w.loop-rest-test.false ∙ chosen_past c.args.frames.now 0 (λ i k. bit_at-zero i)
+      | then-loop-rest-test+in_default w ↦ chosen_none c.args.frames.now c.loop-rest.rest (let h = w.loop-rest-test.true in omega arith) (omega arith) (ltb-false _ _ (sym w.in_default.ensures.lookup.0))
+    ] in
+    sym (ap (g.R.Room.admits c.loop-rest.room) none ∙ g.met.R.Room.nothing c.loop-rest.room) ∙ c.loop-rest.invariant

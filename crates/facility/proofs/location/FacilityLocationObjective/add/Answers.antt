@@ -6,5 +6,5 @@ pub returns : goal.returns
 returns c =
     record {
       whole = λ s. refl;
-      left = λ s. omega (arith, facility_added (λ x. x.look) c.args.self.now.table.now c.args.self.now.best c.loop-v.best-items c.args.x.now s (λ v h. c.loop-v.invariant.raised v (omega arith)));
+      left = λ s. omega (arith, facility_added (λ x. x.look) c.args.self.now.table.now c.args.self.now.best c.loop-v.best-items c.args.x.now s (λ v h. omega (arith, c.loop-v.invariant.raised v, c.row_of-row.ensures v h)));
     }

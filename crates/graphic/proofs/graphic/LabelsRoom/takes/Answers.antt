@@ -1,12 +1,10 @@
-use Rattle.std.proofs.Common.{sym, ap, ◌∙◌, arith}
-use Rattle.cycles.specs.Labels.{joins_by}
-use Rattle.cycles.proofs.Labels.{joins_clash, joins_more}
+use Rattle.std.proofs.Common.{sym, ◌∙◌}
+use Rattle.cycles.specs.Labels.{root}
+use Rattle.cycles.proofs.Labels.{joins_more}
 use Rattle.graphic.proofs.graphic.LabelsRoom.takes.Goals as goal
-
-pub returns-then-a-b : goal.returns-then-a-b
-returns-then-a-b c = λ s. joins_clash (λ y. y.tail) (λ y. y.head) c.args.self.now.labels c.args.x.now s (omega arith) (omega arith) c.if-a-b.true
 
 pub returns : goal.returns
 returns c = λ s.
-    joins_more (λ y. y.tail) (λ y. y.head) c.args.self.now.labels c.args.x.now s (omega arith) (omega arith) c.if-a-b.false (omega arith)
-    ∙ ap (λ ls. joins_by (λ y. y.tail) (λ y. y.head) ls s) (sym c.merge.ensures)
+    let tail_root = c.root-a.ensures.value in
+    let head_root = c.root-b.ensures.value in
+    joins_more (λ y. y.tail) (λ y. y.head) (root c.args.self.now.labels) c.args.x.now s (λ e. c.if-a-b.false (tail_root ∙ e ∙ sym head_root)) (root c.merge.new.self.labels) (λ w. simp (tail_root, head_root) at (c.merge.ensures w))
