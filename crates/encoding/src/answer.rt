@@ -32,6 +32,7 @@ fn frame_bytes(x: &Frame) -> [u8; 17]
 
 // No refusal, the outcome's number, the place, the gain, the gain it lost to, and the frame that left. The outcomes are
 // numbered 0 to 4 by the byte format.
+#[inline(always)]
 fn put_outcome(outcome: &Outcome, out: &mut [u8])
     ensures { out.new ≡ placed (outcome_bytes outcome.now) out.old }
 {
@@ -62,6 +63,7 @@ fn put_outcome(outcome: &Outcome, out: &mut [u8])
     }
 }
 
+#[inline(always)]
 fn put_offered(answer: &Result<Outcome, Refusal>, out: &mut [u8])
     ensures { out.new ≡ placed (offered_bytes answer.now) out.old }
 {
@@ -72,6 +74,7 @@ fn put_offered(answer: &Result<Outcome, Refusal>, out: &mut [u8])
 }
 
 // The refusal, how many records were offered, and the record, the line and the byte where the text stopped.
+#[inline(always)]
 fn put_texted(answer: &Result<usize, TextFault>, out: &mut [u8])
     ensures { out.new ≡ placed (texted_bytes answer.now) out.old }
 {
@@ -94,6 +97,7 @@ fn put_texted(answer: &Result<usize, TextFault>, out: &mut [u8])
 }
 
 // The refusal, the gain and the frame.
+#[inline(always)]
 fn put_looked(answer: &Result<Entry, Refusal>, out: &mut [u8])
     ensures { out.new ≡ placed (looked_bytes answer.now) out.old }
 {
@@ -106,6 +110,7 @@ fn put_looked(answer: &Result<Entry, Refusal>, out: &mut [u8])
     }
 }
 
+#[inline(always)]
 fn put_counted(counts: &Counts, out: &mut [u8])
     ensures { out.new ≡ placed (counted_bytes counts.now) out.old }
 {
@@ -123,6 +128,7 @@ fn put_counted(counts: &Counts, out: &mut [u8])
 }
 
 // The refusal, and the length of the print-out.
+#[inline(always)]
 fn put_printed(answer: &Result<usize, Refusal>, out: &mut [u8])
     ensures { out.new ≡ placed (printed_bytes answer.now) out.old }
 {
@@ -132,7 +138,9 @@ fn put_printed(answer: &Result<usize, Refusal>, out: &mut [u8])
     }
 }
 
-// Writes an answer at the front of `out`, if it has room for it.
+// Writes an answer at the front of `out`, if it has room for it. Inlined, as all the writers above: an answer is then written
+// from the values that it is made of, and not put together in memory first.
+#[inline(always)]
 #[tactic(auto, unfolding(crate::specs::Answers::answer_bytes, crate::specs::Answers::placed))]
 pub fn put_answer(answer: &Answer, out: &mut [u8])
     ensures { out.new ≡ placed (answer_bytes answer.now) out.old }

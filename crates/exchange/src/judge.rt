@@ -19,6 +19,7 @@ const SHORT: usize = 8;
 const LONGEST: usize = MOST_KEPT + 1;
 
 // What becomes of `x`, of the given gain, beside the kept frames. A frame of gain 0 asks the matroid nothing.
+#[inline(always)]
 pub fn judge<R: Matroid>(matroid: &R, size: Size, table: &KeptTable, x: Frame, gain: u32) -> Outcome
     ensures outcome { result ≡ outcome_of (R.Matroid.admits matroid.now) size.n (held table.now) x gain }
     ensures place { PlaceStands (R.Matroid.admits matroid.now) (held table.now) x result }

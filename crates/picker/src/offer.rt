@@ -55,7 +55,9 @@ impl<W: Objective, R: Matroid> Picker<W, R> {
         self.gain = self.gain - u64::from(was) + u64::from(gain);
     }
 
-    // What becomes of `x`, by its gain over all frames that were accepted.
+    // What becomes of `x`, by its gain over all frames that were accepted. Inlined, as `take_in` and `judge`: an outcome would
+    // be written to memory at each call that answers it, and read back.
+    #[inline(always)]
     fn weigh(&self, x: Frame) -> Outcome
         ensures { result ≡ verdict W.Objective R.Matroid self.now x }
     {
@@ -63,6 +65,7 @@ impl<W: Objective, R: Matroid> Picker<W, R> {
         judge(&self.matroid, self.size, &self.table, x, gain)
     }
 
+    #[inline(always)]
     pub(crate) fn take_in(&mut self, arrival: Arrival) -> Outcome
         requires { self.old.seen < 1000000 }
         ensures outcome { result ≡ verdict W.Objective R.Matroid self.old arrival.frame }
