@@ -1,8 +1,8 @@
 -- Of two forests the larger has a frame to add to the smaller. Assumes nothing.
 use Rattle.std.proofs.Common.{◌≡◌, ℕ, suc, ◌+◌, ◌<◌, ◌≤◌, Bool, true, false, cond, ◌&&◌, eqb, List, [], ◌∷◌, length, sym, refl, ap, ◌∙◌, ap₂, ⊎_elim, arith, if◌then◌else◌, ◌==◌}
 use Rattle.std.proofs.lemmas.Bool.{true≢false, cases_lt, and_parts}
-use Rattle.theory.specs.Bag.{Same, count, Within}
-use Rattle.theory.proofs.Bags.{count_cons, one_self}
+use Rattle.theory.specs.Bag.{Same, count}
+use Rattle.theory.proofs.Bags.{Within, count_cons, one_self}
 use Rattle.cycles.proofs.Parity.{differ, differ_self, differ_false, same_unless, parity, some, once, after, once_after}
 use Rattle.cycles.proofs.Forests.{forest, Even, Cycle, pivot, loop, no_cycle, through, forest_swap}
 

@@ -1,5 +1,5 @@
 -- What the tests of a judgement come to, and what a step of the replay is by its outcome. Assumes nothing.
-use Rattle.std.proofs.Common.{◌≡◌, ℕ, ◌*◌, ◌<◌, Bool, true, false, cond, eqb, ltb, leb, List, ◌∷◌, length, Some, None, Option, sym, refl, ap, ◌∙◌, arith}
+use Rattle.std.proofs.Common.{◌≡◌, ℕ, ◌*◌, ◌<◌, Bool, true, false, cond, eqb, ltb, leb, List, [], ◌∷◌, ◌++◌, length, slice_set, Some, None, Option, sym, refl, ap, ◌∙◌, arith}
 use Rattle.std.proofs.lemmas.Bool.{ne_eqb, ltb-true, and_parts, cond-false, cond_both}
 use Rattle.theory.specs.Lightest.{LightestIs}
 use Rattle.theory.specs.Replay.{State, gains, lightest, gain_of, keep, offer, swap, step, may_take, has_room}
@@ -9,7 +9,7 @@ use Rattle.frames.specs.declared.frame.Frame.{Frame}
 use Rattle.kept.specs.Tables.{frame_at, gain_at}
 use Rattle.exchange.specs.declared.outcome.Outcome.{Outcome}
 use Rattle.exchange.specs.declared.outcome.Outcome.TheVariants.{Empty, Kept, Swapped, Light, Barred}
-use Rattle.exchange.specs.Outcomes.{displaced, outcome_of, kept_after, accepted, PlaceStands}
+use Rattle.exchange.specs.Outcomes.{displaced, outcome_of, PlaceStands}
 
 module _ (adm : List Frame → Bool) (n : ℕ) (es : List (Frame × ℕ)) (x : Frame) (g : ℕ) (pos : 0 < g) where
   pub displaced_outcome : has_room adm n es x ≡ false → (o : Option ℕ) → LightestIs (may_take adm es x) (gains es) o → displaced es g o ≡ outcome_of adm n es x g
@@ -17,6 +17,22 @@ module _ (adm : List Frame → Bool) (n : ℕ) (es : List (Frame × ℕ)) (x : F
       sym (cond-false (eqb g 0) Empty (cond (has_room adm n es x) (Kept (length es) g) (displaced es g (lightest (may_take adm es x) (gains es)))) (ne_eqb g 0 (λ z. omega arith))
       ∙ ap (λ b. cond b (Kept (length es) g) (displaced es g (lightest (may_take adm es x) (gains es)))) e
       ∙ ap (displaced es g) (lightest_from (may_take adm es x) (gains es) o is))
+
+-- what is kept after an outcome
+abbrev kept_after : Outcome → Frame → List (Frame × ℕ) → List (Frame × ℕ)
+kept_after Empty x es = es
+kept_after (Kept p g) x es = es ++ ((x, g) ∷ [])
+kept_after (Swapped p g l) x es = slice_set es p (x, g)
+kept_after (Light p g l) x es = es
+kept_after (Barred g) x es = es
+
+-- whether x is kept, so that the objective has it added
+abbrev accepted : Outcome → Bool
+accepted Empty = false
+accepted (Kept p g) = true
+accepted (Swapped p g l) = true
+accepted (Light p g l) = false
+accepted (Barred g) = false
 
 -- the state after an outcome
 abbrev pub settled : State Frame → Frame → Outcome → State Frame

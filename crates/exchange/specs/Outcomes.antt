@@ -1,5 +1,5 @@
 -- What becomes of an offered frame, and what is kept then. Assumes nothing.
-use Rattle.std.specs.Prelude.{◌≡◌, ℕ, ◌*◌, Bool, true, false, if◌then◌else◌, List, [], ◌∷◌, ◌++◌, length, Some, None, Option, ◌==◌, nat_le, slice_set}
+use Rattle.std.specs.Prelude.{◌≡◌, ℕ, ◌*◌, Bool, if◌then◌else◌, List, length, Some, None, Option, ◌==◌, nat_le}
 use Rattle.theory.specs.Lightest.{LightestIs}
 use Rattle.theory.specs.Replay.{gains, lightest, may_take, has_room}
 use Rattle.frames.specs.declared.frame.Frame.{Frame}
@@ -16,22 +16,6 @@ displaced es g (Some p) = if nat_le (2 * gain_at es p) g then Swapped p g (frame
 abbrev pub outcome_of : (List Frame → Bool) → ℕ → List (Frame × ℕ) → Frame → ℕ → Outcome
 outcome_of adm n es x g =
     if g == 0 then Empty else (if has_room adm n es x then Kept (length es) g else displaced es g (lightest (may_take adm es x) (gains es)))
-
--- what is kept after that
-abbrev pub kept_after : Outcome → Frame → List (Frame × ℕ) → List (Frame × ℕ)
-kept_after Empty x es = es
-kept_after (Kept p g) x es = es ++ ((x, g) ∷ [])
-kept_after (Swapped p g l) x es = slice_set es p (x, g)
-kept_after (Light p g l) x es = es
-kept_after (Barred g) x es = es
-
--- whether x is kept, so that the objective has it added
-abbrev pub accepted : Outcome → Bool
-accepted Empty = false
-accepted (Kept p g) = true
-accepted (Swapped p g l) = true
-accepted (Light p g l) = false
-accepted (Barred g) = false
 
 -- the place of an outcome: the next one for a kept frame, and else the lightest that counts, the lowest on a tie
 abbrev pub PlaceStands : (List Frame → Bool) → List (Frame × ℕ) → Frame → Outcome → Type 0

@@ -1,5 +1,4 @@
-ghost use Rattle.std.specs.Prelude.{◌≡◌, ◌<◌, ◌≤◌, ◌∷◌, length};
-ghost use Rattle.theory.specs.Replay.{frames};
+ghost use Rattle.std.specs.Prelude.{◌≡◌, ◌<◌, ◌≤◌, length};
 ghost use Rattle.exchange.specs.Outcomes.{outcome_of, PlaceStands};
 ghost use Rattle.kept.specs.Tables.{held};
 
@@ -29,39 +28,35 @@ pub fn judge<R: Matroid>(matroid: &R, size: Size, table: &KeptTable, x: Frame, g
     }
     // a new row has all its places cleared, so a short one serves where few frames are kept
     if table.len() < SHORT {
-        let mut row = ArrayVec::<Frame, SHORT>::new();
-        line_up(x, table, &mut row);
-        judge_lined(matroid, size, table, x, gain, row.as_slice())
+        judge_lined::<R, SHORT>(matroid, size, table, x, gain)
     } else {
-        let mut row = ArrayVec::<Frame, LONGEST>::new();
-        line_up(x, table, &mut row);
-        judge_lined(matroid, size, table, x, gain, row.as_slice())
+        judge_lined::<R, LONGEST>(matroid, size, table, x, gain)
     }
 }
 
-// The same of a frame with a gain, which stands before the kept frames in the row. In line at both calls, which spares the
-// outcome a copy.
+// The same of a frame with a gain, lined up before the kept frames in a row of so many places.
 #[inline(always)]
-fn judge_lined<R: Matroid>(
+fn judge_lined<R: Matroid, const N: usize>(
     matroid: &R,
     size: Size,
     table: &KeptTable,
     x: Frame,
     gain: u32,
-    row: &[Frame],
 ) -> Outcome
     requires gain { 0 < gain }
-    requires lined { row.now ≡ x ∷ frames (held table.now) }
-    requires fits { length row.now ≤ 49 }
+    requires room { length table.now < N }
+    requires short { N ≤ 49 }
     ensures outcome { result ≡ outcome_of (R.Matroid.admits matroid.now) size.n (held table.now) x gain }
     ensures place { PlaceStands (R.Matroid.admits matroid.now) (held table.now) x result }
 {
+    let mut row = ArrayVec::<Frame, N>::new();
+    line_up(x, table, &mut row);
     let bid = Bid {
         matroid,
         table,
         frame: x,
         gain,
-        row,
+        row: row.as_slice(),
     };
     if bid.has_room(size) {
         return Outcome::Kept {

@@ -7,7 +7,7 @@ use Rattle.std.proofs.ByRecursion.{All-take, All-drop, All-from_get_or, sum_by_l
 use Rattle.std.proofs.lemmas.List.Sums.{sum_by-cons}
 use Rattle.std.proofs.lemmas.Bool.{cases_lt, cases_eq, eq-eqb, ne_eqb}
 use Rattle.theory.specs.Laws.{Lawful}
-use Rattle.kinds.specs.Objectives.{steps_of, steps_left, of_lane, concave, Falling}
+use Rattle.kinds.specs.Objectives.{steps_of, steps_left, of_lane, concave}
 use Rattle.kinds.proofs.Counts.{count_at}
 use Rattle.kinds.proofs.Gains.{adds_below, only, only_here, only_not, sum_one, sum_out}
 use Rattle.kinds.proofs.Lawful.{Concave, count_lawful}
@@ -26,6 +26,10 @@ sum_first : (xs : List ℕ) (n : ℕ) → sum (take (suc n) xs) ≡ sum (take n 
 sum_first [] zero = refl
 sum_first [] (suc n) = refl
 sum_first (x ∷ xs) n = omega (arith, sum_by-cons (λ y. y) x (take n xs))
+
+-- numbers that never rise
+abbrev pub Falling : List ℕ → Type 0
+Falling xs = (j : ℕ) → slice_index xs (suc j) ≤ slice_index xs j
 
 -- at most eight steps, none above 8,388,607, that never rise
 pub record Steps (xs : List ℕ) : Type 0 where

@@ -1,5 +1,5 @@
 -- The value of a bag of frames, by kind. Assumes nothing.
-use Rattle.std.specs.Prelude.{ℕ, suc, ◌+◌, ◌-◌, ◌*◌, ◌≤◌, min, max, Bool, List, [], ◌∷◌, ◌++◌, map, length, take, drop, sum_by, sum, count_by, if◌then◌else◌, ◌==◌, nat_eq, slice_index}
+use Rattle.std.specs.Prelude.{ℕ, ◌+◌, ◌-◌, ◌*◌, ◌≤◌, min, max, Bool, List, [], ◌∷◌, ◌++◌, map, length, take, drop, sum_by, sum, count_by, if◌then◌else◌, ◌==◌, nat_eq, slice_index}
 use Rattle.std.specs.Int.{bit_at}
 use Rattle.std.specs.List.{list_any, range_with_len}
 
@@ -59,10 +59,6 @@ of_lane lane steps_at l s = sum (take (count_by (λ x. nat_eq (lane x) l) s) (st
 -- the steps of all lanes
 unfoldable pub concave : {A : Type 0} → (A → ℕ) → (ℕ → List ℕ) → List A → ℕ
 concave lane steps_at s = sum_by (λ l. of_lane lane steps_at l s) (range_with_len 0 64)
-
--- numbers that never rise
-abbrev pub Falling : List ℕ → Type 0
-Falling xs = (j : ℕ) → slice_index xs (suc j) ≤ slice_index xs j
 
 -- the smaller of the cap c and f
 abbrev pub capped : {A : Type 0} → ℕ → (List A → ℕ) → List A → ℕ

@@ -3,7 +3,15 @@ use Rattle.std.proofs.Common.{◌≡◌, ℕ, suc, ◌+◌, ◌<◌, ◌≤◌, 
 use Rattle.std.specs.List.{remove}
 use Rattle.std.specs.Set.{remove_key}
 use Rattle.std.proofs.lemmas.List.Sums.{sum_by-cons, sum_by-append, sum_by-set, sum_by-remove}
-use Rattle.theory.specs.Bag.{Same, count, Within, Alike, Orderless}
+use Rattle.theory.specs.Bag.{Same, count, Orderless}
+
+-- no element occurs more often in s than in t
+abbrev pub Within : {A : Type 0} → (A → A → Bool) → List A → List A → Type 0
+Within {A} same s t = (x : A) → count same x s ≤ count same x t
+
+-- each element occurs as often in s as in t
+abbrev pub Alike : {A : Type 0} → (A → A → Bool) → List A → List A → Type 0
+Alike {A} same s t = (x : A) → count same x s ≡ count same x t
 
 -- what std says of sums, of how often an element occurs
 module _ {A : Type 0} (same : A → A → Bool) (z : A) where

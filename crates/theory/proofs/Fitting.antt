@@ -2,10 +2,10 @@
 use Rattle.std.proofs.Common.{◌≡◌, ℕ, zero, suc, ◌+◌, ◌-◌, ◌<◌, ◌≤◌, Bool, true, cond, List, [], ◌∷◌, ◌++◌, length, get_or, ap, ◌∙◌, subst, arith, slice_index_or}
 use Rattle.std.specs.List.{remove}
 use Rattle.std.proofs.lemmas.List.{get_or-map, length-map}
-use Rattle.theory.specs.Bag.{Same, count, Within, Alike}
+use Rattle.theory.specs.Bag.{Same, count}
 use Rattle.theory.specs.Laws.{MatroidLaws}
 use Rattle.theory.specs.Replay.{frames}
-use Rattle.theory.proofs.Bags.{count_cons, count_removed, rest_of, by_counts, length_within, within_back, one_more, one_self, one_both, within_cons}
+use Rattle.theory.proofs.Bags.{Within, Alike, count_cons, count_removed, rest_of, by_counts, length_within, within_back, one_more, one_self, one_both, within_cons}
 use Rattle.theory.proofs.Heavy.{heavy, heavy_within, light_place}
 
 -- independent, and at most n

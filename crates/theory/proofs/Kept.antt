@@ -4,11 +4,11 @@ use Rattle.std.specs.List.{remove, AllByRecursion}
 use Rattle.std.proofs.ByRecursion.{All-weaker}
 use Rattle.std.proofs.lemmas.List.{map_push, map-set, get_or-map, length-map, length-set, length_push}
 use Rattle.std.proofs.lemmas.List.Sums.{sum_by_push, sum_by-set}
-use Rattle.theory.specs.Bag.{Same, count, Within, Alike}
+use Rattle.theory.specs.Bag.{Same, count}
 use Rattle.theory.specs.Laws.{Submodular, MatroidLaws}
 use Rattle.theory.specs.Digits.{binary_length}
 use Rattle.theory.specs.Replay.{State, frames, gain_of, keep, swap, step}
-use Rattle.theory.proofs.Bags.{count_cons, count_append, count_set, count_removed}
+use Rattle.theory.proofs.Bags.{Within, Alike, count_cons, count_append, count_set, count_removed}
 use Rattle.theory.proofs.Digits.{binary_length_twice, binary_length_pos}
 use Rattle.theory.proofs.Values.{Earns, earns_push, earns_set, earns_more}
 use Rattle.theory.proofs.Fitting.{Fits, adm_alike}

@@ -5,8 +5,8 @@ use Rattle.std.proofs.lemmas.List.Sorted.{IsPermutation-cons, IsPermutation-swap
 use Rattle.std.proofs.lemmas.List.Sums.{sum_by-append, sum_by-cons}
 use Rattle.std.proofs.lemmas.Bool.{cases_lt}
 use Rattle.std.specs.Set.{remove_key}
-use Rattle.theory.specs.Bag.{Same, count, Alike, Orderless}
-use Rattle.theory.proofs.Bags.{count_cons, count_without, to_front}
+use Rattle.theory.specs.Bag.{Same, count, Orderless}
+use Rattle.theory.proofs.Bags.{Alike, count_cons, count_without, to_front}
 
 -- a function of something that does not go by the order
 pub orderless_after : {A B C : Type 0} (g : B → C) (h : List A → B) → Orderless h → Orderless (λ s. g (h s))

@@ -4,10 +4,10 @@ use Rattle.std.specs.List.{AllByRecursion}
 use Rattle.std.proofs.ByRecursion.{All-weaker}
 use Rattle.std.proofs.lemmas.Bool.{cases_lt}
 use Rattle.std.specs.Set.{remove_key}
-use Rattle.theory.specs.Bag.{Same, count, Within, Alike}
+use Rattle.theory.specs.Bag.{Same, count}
 use Rattle.theory.specs.Laws.{Submodular, MatroidLaws}
 use Rattle.theory.specs.Replay.{State, frames}
-use Rattle.theory.proofs.Bags.{count_cons, count_append, count_without}
+use Rattle.theory.proofs.Bags.{Within, Alike, count_cons, count_append, count_without}
 use Rattle.theory.proofs.Layers.{tall, layers}
 use Rattle.theory.proofs.Heavy.{heavy, heavy_within, length_heavy, heavy_has}
 use Rattle.theory.proofs.Values.{worth_within, worth-sum}

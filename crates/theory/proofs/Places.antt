@@ -3,8 +3,8 @@ use Rattle.std.proofs.Common.{◌≡◌, ℕ, zero, suc, ◌+◌, ◌<◌, ◌�
 use Rattle.std.specs.List.{AllByRecursion, slice_get}
 use Rattle.std.proofs.ByRecursion.{All-weaker, All-push, All-set}
 use Rattle.std.proofs.lemmas.List.{map_push, map-set, length-map}
-use Rattle.theory.specs.Bag.{count, Within, Distinct, Drawn}
-use Rattle.theory.proofs.Bags.{count_cons}
+use Rattle.theory.specs.Bag.{count, Distinct, Drawn}
+use Rattle.theory.proofs.Bags.{Within, count_cons}
 
 -- how often z stands in what was found
 abbrev found : {A : Type 0} → (A → A → Bool) → A → Option A → ℕ

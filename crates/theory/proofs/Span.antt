@@ -2,10 +2,10 @@
 use Rattle.std.proofs.Common.{◌≡◌, ℕ, ◌+◌, ◌*◌, ◌<◌, ◌≤◌, Bool, true, false, cond, ◌⊎◌, List, [], ◌∷◌, ◌++◌, length, set, refl, ap, inl, inr, ⊎_elim, arith, if◌then◌else◌, slice_index, slice_index_or}
 use Rattle.std.proofs.lemmas.List.{get_or-map}
 use Rattle.std.proofs.lemmas.Bool.{cases_lt}
-use Rattle.theory.specs.Bag.{Same, count, Alike}
+use Rattle.theory.specs.Bag.{Same, count}
 use Rattle.theory.specs.Laws.{MatroidLaws}
 use Rattle.theory.specs.Replay.{State, frames, gains}
-use Rattle.theory.proofs.Bags.{count_cons, length_alike}
+use Rattle.theory.proofs.Bags.{Alike, count_cons, length_alike}
 use Rattle.theory.proofs.Heavy.{heavy, part, part_light, part_heavy, heavy_within, heavy_push, heavy_set}
 use Rattle.theory.proofs.Fitting.{Fits, fits_named, fits_within, fits_exchange, light_counts}
 use Rattle.theory.proofs.Steps.{Passes, Takes}

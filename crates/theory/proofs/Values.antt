@@ -2,10 +2,10 @@
 use Rattle.std.proofs.Common.{◌≡◌, ℕ, zero, suc, ◌+◌, ◌≤◌, Bool, List, [], ◌∷◌, ◌++◌, set, sum_by, arith}
 use Rattle.std.specs.List.{AllByRecursion}
 use Rattle.std.proofs.lemmas.List.Sums.{sum_by-cons}
-use Rattle.theory.specs.Bag.{Same, Within, Alike}
+use Rattle.theory.specs.Bag.{Same}
 use Rattle.theory.specs.Laws.{Submodular}
 use Rattle.theory.specs.Replay.{frames}
-use Rattle.theory.proofs.Bags.{count_cons, count_append, rest_of, by_counts}
+use Rattle.theory.proofs.Bags.{Within, Alike, count_cons, count_append, rest_of, by_counts}
 
 -- each part of the entries, with c beside it, has a value of at least its gains and v
 abbrev pub Earns : {A : Type 0} → (List A → ℕ) → List (A × ℕ) → List A → ℕ → Type 0

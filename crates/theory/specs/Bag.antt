@@ -11,14 +11,6 @@ pub record Same {A : Type 0} (same : A → A → Bool) : Type 0 where
 abbrev pub count : {A : Type 0} → (A → A → Bool) → A → List A → ℕ
 count same x s = count_by (same x) s
 
--- no element occurs more often in s than in t
-abbrev pub Within : {A : Type 0} → (A → A → Bool) → List A → List A → Type 0
-Within {A} same s t = (x : A) → count same x s ≤ count same x t
-
--- each element occurs as often in s as in t
-abbrev pub Alike : {A : Type 0} → (A → A → Bool) → List A → List A → Type 0
-Alike {A} same s t = (x : A) → count same x s ≡ count same x t
-
 -- two neighbours may change places
 abbrev pub Orderless : {A B : Type 0} → (List A → B) → Type 0
 Orderless {A} h = (p : List A) (x y : A) (s : List A) → h (p ++ (x ∷ y ∷ s)) ≡ h (p ++ (y ∷ x ∷ s))
