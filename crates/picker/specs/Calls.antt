@@ -1,7 +1,8 @@
 -- The calls made of a picker after its opening, and the frames that they bring. Assumes nothing.
-use Rattle.std.specs.Prelude.{ℕ, ◌-◌, if◌then◌else◌, ◌||◌, List, [], ◌∷◌, ◌++◌, length, take, fold, ◌==◌, nat_le, nat_lt}
+use Rattle.std.specs.Prelude.{ℕ, ◌-◌, if◌then◌else◌, List, [], ◌∷◌, ◌++◌, length, take, fold, ◌==◌, nat_le}
 use Rattle.frames.specs.declared.frame.Frame.{Frame}
 use Rattle.records.specs.Reading.{frames_in}
+use Rattle.picker.specs.Arrivals.{too_high}
 
 -- a call, with what it was given
 pub data Called : Type 0 where
@@ -17,9 +18,9 @@ pub data Called : Type 0 where
   printing : Called
   clearing : Called
 
--- a frame is taken in unless its lane or its side is too high, or 1,000,000 are there
+-- a frame is taken in unless its lane or its side is too high for a record, or 1,000,000 are there
 abbrev pub arrive : List Frame → Frame → List Frame
-arrive xs x = if nat_lt 63 x.lane || nat_lt 1 x.side then xs else (if length xs == 1000000 then xs else (xs ++ x ∷ []))
+arrive xs x = if too_high x then xs else (if length xs == 1000000 then xs else (xs ++ x ∷ []))
 
 -- what a call makes of the arrivals: a text brings the frames of its records, up to the first that cannot be read or
 -- taken in, unless it is too long; a clear empties them; a look-up or a print-out leaves them
