@@ -1,5 +1,5 @@
 -- From what a picker has met to the promise of the label. Assumes nothing.
-use Rattle.std.proofs.Common.{◌≡◌, ℕ, ◌-◌, ◌*◌, ◌≤◌, Bool, true, false, cond, ◌||◌, eqb, ltb, leb, List, [], ◌∷◌, ◌++◌, length, take, Some, None, Err, MatchBool, sum_by, Option, Result, sym, refl, ap, ◌∙◌, subst, arith}
+use Rattle.std.proofs.Common.{◌≡◌, ℕ, ◌-◌, ◌*◌, ◌≤◌, Bool, true, false, cond, eqb, leb, List, [], ◌∷◌, ◌++◌, length, take, Some, None, Err, MatchBool, sum_by, Option, Result, sym, refl, ap, ◌∙◌, subst, arith}
 use mathlib.Core.Path.{fun_ext}
 use Rattle.std.proofs.lemmas.List.{length-map}
 use Rattle.std.proofs.lemmas.List.Sums.{fold_push}
@@ -19,6 +19,7 @@ use Rattle.faults.specs.declared.fault.TextFault.{TextFault}
 use Rattle.faults.specs.declared.fault.TextFault.TheVariants.{LongText}
 use Rattle.records.specs.Reading.{frames_in}
 use Rattle.picker.specs.declared.picker.Picker.{Picker}
+use Rattle.picker.specs.Arrivals.{too_high}
 use Rattle.picker.specs.Entries.{total}
 use Rattle.picker.specs.Calls.{Called, offering, reading, clearing, arrive, arrive_by, arrivals}
 use Rattle.picker.specs.Met.{nothing, Met, Labelled, Bounded, Promises}
@@ -37,7 +38,7 @@ entered None xs x = xs ++ x ∷ []
 entered (Some e) xs x = xs
 
 arrive_entered : (xs : List Frame) (x : Frame) → arrive xs x ≡ entered (refusal_of x (length xs)) xs x
-arrive_entered xs x = go (ltb 63 x.lane || ltb 1 x.side) (eqb (length xs) 1000000)
+arrive_entered xs x = go (too_high x) (eqb (length xs) 1000000)
   where
     go : (a b : Bool) → cond a xs (cond b xs (xs ++ x ∷ [])) ≡ entered (cond a (Some Over) (cond b (Some ShiftFull) None)) xs x
     go true b = refl
