@@ -1,7 +1,9 @@
--- What a line's fault tells: the refusal, and where. Assumes nothing.
-use Rattle.std.specs.Prelude.{ℕ}
+-- What a line's fault tells: the refusal, and where, and both as a text. Assumes nothing.
+use Rattle.std.specs.Prelude.{ℕ, ◌++◌, List, codes}
+use Rattle.std.specs.Fmt.{decimal}
 use Rattle.frames.specs.declared.refusal.Refusal.{Refusal}
 use Rattle.frames.specs.declared.refusal.Refusal.TheVariants as refusals
+use Rattle.frames.specs.Refusals.{text_of}
 use Rattle.spots.specs.declared.fault.Spot.{Spot}
 use Rattle.spots.specs.declared.fault.LineFault.{LineFault}
 use Rattle.spots.specs.declared.fault.LineFault.TheVariants.{WrongKey, BadForm, Over, Cut}
@@ -20,3 +22,11 @@ line_spot (WrongKey s) = s
 line_spot (BadForm s) = s
 line_spot (Over s) = s
 line_spot (Cut s) = s
+
+-- where a text stopped, as it stands behind a refusal's text
+abbrev pub spot_text : Spot → List ℕ
+spot_text s = codes ", in record " ++ decimal s.«record» ++ codes ", line " ++ decimal s.line ++ codes ", at byte " ++ decimal s.byte
+
+-- what a line's fault says: the refusal, and where the text stopped
+abbrev pub line_text : LineFault → List ℕ
+line_text e = text_of (line_refusal e) ++ spot_text (line_spot e)

@@ -2,3 +2,4 @@
 
 pub mod fault;
 mod tells;
+mod text;
