@@ -1,5 +1,5 @@
 -- How many decimal digits a number takes, and that its sixteen digits are two for each of its bytes. Assumes nothing.
-use Rattle.std.proofs.Common.{◌≡◌, ℕ, zero, suc, ◌*◌, ◌/◌, ◌%◌, ◌^◌, ◌<◌, ◌≤◌, ◌+◌, ◌==◌, Bool, true, ◌&&◌, List, [], ◌∷◌, ◌++◌, length, slice_index, refl, sym, ap, ◌∙◌, decimal, append_assoc, arith, inl, inr}
+use Rattle.std.proofs.Common.{◌≡◌, ℕ, zero, suc, ◌*◌, ◌/◌, ◌%◌, ◌^◌, ◌<◌, ◌≤◌, ◌+◌, max, ◌==◌, Bool, true, ◌&&◌, List, [], ◌∷◌, ◌++◌, length, slice_index, refl, sym, ap, ◌∙◌, decimal, append_assoc, arith, inl, inr}
 use Rattle.std.proofs.lemmas.Bool.{and_parts, cases_lt, eqb-true}
 use Rattle.std.proofs.lemmas.Fmt.{decimal_digit, decimal_nonempty, decimal_step, length-decimal-le}
 use Rattle.std.proofs.lemmas.List.{length_push}
@@ -84,12 +84,14 @@ digits_least (suc k) n h b =
     let step : length (decimal n) ≡ length (decimal (n / 10)) + 1 = ap length (decimal_step n (omega arith) b) ∙ length_push (decimal (n / 10)) (48 + n % 10) in
     omega (arith, step, digits_least k (n / 10) (omega arith) (omega arith))
 
--- a number that k digits are too few for, and one more enough
-pub decimal_long : (k n : ℕ) → 10 ^ k ≤ n → n < 10 * 10 ^ k → n < 2 ^ 64 → length (decimal n) ≡ k + 1
-decimal_long k n h l b =
-    let power : 10 ^ suc k ≡ 10 * 10 ^ k = pow-succ' 10 k in
-    let most : length (decimal n) ≤ suc k = length-decimal-le (suc k) n (omega arith) (omega arith) b in
-    omega (arith, most, digits_least k n h b)
+digit_long : (d : ℕ) → d < 10 → length (decimal d) ≡ 1
+digit_long d low = ap length (decimal_digit d low)
 
-pub zero_long : length (decimal 0) ≡ 1
-zero_long = ap length (decimal_digit 0 (omega arith))
+-- a number that k digits are too few for, and one more enough; 0 has as many as 1
+pub decimal_long : (k n : ℕ) → 10 ^ k ≤ max n 1 → max n 1 < 10 * 10 ^ k → n < 2 ^ 64 → length (decimal n) ≡ k + 1
+decimal_long k zero h l b = omega (arith, digits_least k 1 (omega (arith, h)) (omega arith), digit_long 0 (omega arith), digit_long 1 (omega arith))
+decimal_long k (suc m) h l b =
+    let n = suc m in
+    let power : 10 ^ suc k ≡ 10 * 10 ^ k = pow-succ' 10 k in
+    let most : length (decimal n) ≤ suc k = length-decimal-le (suc k) n (omega arith) (omega (arith, l)) b in
+    omega (arith, most, digits_least k n (omega (arith, h)) b)
