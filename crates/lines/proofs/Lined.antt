@@ -1,5 +1,5 @@
 -- A line of a text that was read step by step: the key, the line feed, the value.
-use Rattle.std.proofs.Common.{◌≡◌, ℕ, ◌+◌, ◌<◌, ◌≤◌, min, true, false, eqb, List, [], ◌∷◌, ◌++◌, length, take, drop, Some, None, Ok, Err, Option, Result, MatchOption, MatchBool, refl, sym, ap, ◌∙◌, subst, ⊎_elim, append_assoc, arith, length-drop, length-take, nat_le}
+use Rattle.std.proofs.Common.{◌≡◌, ℕ, ◌+◌, ◌<◌, ◌≤◌, min, true, false, eqb, List, ◌∷◌, ◌++◌, length, take, drop, Some, None, Ok, Err, Option, Result, MatchOption, MatchBool, refl, sym, ap, ◌∙◌, subst, ⊎_elim, arith, length-drop, length-take, nat_le}
 use Rattle.std.proofs.lemmas.Bool.{MatchBool-at_true, MatchBool-at_false, le-leb, lt-leb, cases_lt}
 use Rattle.std.proofs.lemmas.List.Prefix.{front_fits}
 use Rattle.std.proofs.lemmas.List.{drop-drop, length-take-le, append_cancel_left, append_cancel_right}
@@ -17,7 +17,7 @@ use Rattle.records.specs.declared.key.Key.TheVariants.{Number, Marks, Look, Lane
 use Rattle.records.specs.declared.line.Line.{Line}
 use Rattle.records.proofs.Keys.{front_common}
 use Rattle.records.proofs.Feeds.{feed_splits}
-use Rattle.records.proofs.Roundtrip.{line_shown, read_line_shown}
+use Rattle.records.proofs.Roundtrip.{line_joined, line_shown, read_line_shown}
 use Rattle.records.proofs.LineCases.{no_key, key_there, no_end, end_there, no_form, too_high, all_well}
 
 pub key_some : (k : Key) → 0 < length (key_bytes k)
@@ -136,8 +136,7 @@ digits_printed k text at v l p =
     let rest = drop (behind (digits_of l)) text in
     let bytes = (digits_of l).bytes.now in
     let value = shown_value k v in
-    let joined = append_assoc (key_bytes k) (value ++ (10 ∷ [])) rest ∙ ap (λ (t : List ℕ). key_bytes k ++ t) (append_assoc value (10 ∷ []) rest) in
-    let printed = (line_shown k (drop at text) v rest p.reads).1 ∙ joined in
+    let printed = (line_shown k (drop at text) v rest p.reads).1 ∙ line_joined (key_bytes k) value rest in
     append_cancel_right bytes value (10 ∷ rest) (append_cancel_left (key_bytes k) (bytes ++ (10 ∷ rest)) (value ++ (10 ∷ rest)) (sym p.shows ∙ printed))
 
 -- a line was read just where it is printed so

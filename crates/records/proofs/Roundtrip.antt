@@ -12,7 +12,7 @@ use Rattle.records.proofs.Notation.{Notation, reads_written, written_reads}
 use Rattle.records.proofs.RecordCases.{seven_lines}
 
 -- the line of a value, with the text behind it
-line_joined : (key value rest : List ℕ) → (key ++ (value ++ (10 ∷ []))) ++ rest ≡ key ++ (value ++ (10 ∷ rest))
+pub line_joined : (key value rest : List ℕ) → (key ++ (value ++ (10 ∷ []))) ++ rest ≡ key ++ (value ++ (10 ∷ rest))
 line_joined key value rest = append_assoc key (value ++ (10 ∷ [])) rest ∙ ap (λ (t : List ℕ). key ++ t) (append_assoc value (10 ∷ []) rest)
 
 -- a line of any key in shortest decimal digits
