@@ -1,4 +1,4 @@
-use Rattle.std.proofs.Common.{◌≡◌, ℕ, ◌+◌, Bool, length, Some, Option, sym, ◌∙◌, subst, arith}
+use Rattle.std.proofs.Common.{◌≡◌, length, sym, ◌∙◌, subst, arith}
 use Rattle.theory.specs.Lightest.{LightestBelow}
 use Rattle.theory.specs.Replay.{gains, may_take}
 use Rattle.kept.specs.Tables.{held}
@@ -16,33 +16,28 @@ may_take-requires g c =
 pub loop-p-preserved-then-may_take : goal.loop-p-preserved-then-may_take
 loop-p-preserved-then-may_take g c =
     let b = c.args.self.now in
+    let counts = may_take (g.R.Matroid.admits b.matroid.now) (held b.table.now) b.frame in
     let gs = gains (held b.table.now) in
     let s = c.in-Some.ensures.steps in
     let p = c.in-Some.p in
     let inv = c.loop-p.invariant in
-    let counts : ℕ → Bool = may_take (g.R.Matroid.admits b.matroid.now) (held b.table.now) b.frame in
-    let Below : ℕ → Option ℕ → Type 0 = LightestBelow counts gs in
-    let next : c.next.new.self.start ≡ p + 1 = omega (arith, s.1.1, s.1.2) in
-    let before : Below p c.loop-p.best = subst (λ i. Below i c.loop-p.best) (sym s.1.1) inv.2 in
-    let after : Below (p + 1) (Some p) = search_found counts gs p c.loop-p.best (sym {b = lighter_than gs p c.loop-p.best} c.is_lighter.ensures ∙ c.if-is_lighter.true) (sym {b = counts p} c.may_take.ensures ∙ c.if-may_take.true) before in
-    (omega (arith, inv.0, s.0, s.1.0, s.1.2), s.0 ∙ inv.1, subst (λ i. Below i (Some p)) (sym next) after)
+    let light = sym {b = lighter_than gs p c.loop-p.best} c.is_lighter.ensures ∙ c.if-is_lighter.true in
+    let taken = sym {b = counts p} c.may_take.ensures ∙ c.if-may_take.true in
+    (omega (arith, inv.0, s.0, s.1.0, s.1.2), s.0 ∙ inv.1, search_found counts gs c.loop-p.places.start p c.next.new.self.start s.1.1 s.1.2 c.loop-p.best light taken inv.2)
 
 pub loop-p-preserved : goal.loop-p-preserved
 loop-p-preserved g c =
     let b = c.args.self.now in
+    let counts = may_take (g.R.Matroid.admits b.matroid.now) (held b.table.now) b.frame in
     let gs = gains (held b.table.now) in
     let s = c.in-Some.ensures.steps in
     let p = c.in-Some.p in
     let inv = c.loop-p.invariant in
-    let counts : ℕ → Bool = may_take (g.R.Matroid.admits b.matroid.now) (held b.table.now) b.frame in
-    let Below : ℕ → Type 0 = λ i. LightestBelow counts gs i c.loop-p.best in
-    let next : c.next.new.self.start ≡ p + 1 = omega (arith, s.1.1, s.1.2) in
-    let before : Below p = subst Below (sym s.1.1) inv.2 in
-    let after : Below (p + 1) = elim c.else-is_lighter.branch [
-      | else-is_lighter-via-then-is_lighter+else-may_take w ↦ search_barred counts gs p c.loop-p.best (sym {b = counts p} w.may_take.ensures ∙ w.if-may_take.false) before
-      | else-is_lighter-via-else-is_lighter w ↦ search_heavy counts gs p c.loop-p.best (sym {b = lighter_than gs p c.loop-p.best} c.is_lighter.ensures ∙ w.if-is_lighter.false) before
+    let kept : LightestBelow counts gs c.next.new.self.start c.loop-p.best = elim c.else-is_lighter.branch [
+      | else-is_lighter-via-then-is_lighter+else-may_take w ↦ search_barred counts gs c.loop-p.places.start p c.next.new.self.start s.1.1 s.1.2 c.loop-p.best (sym {b = counts p} w.may_take.ensures ∙ w.if-may_take.false) inv.2
+      | else-is_lighter-via-else-is_lighter w ↦ search_heavy counts gs c.loop-p.places.start p c.next.new.self.start s.1.1 s.1.2 c.loop-p.best (sym {b = lighter_than gs p c.loop-p.best} c.is_lighter.ensures ∙ w.if-is_lighter.false) inv.2
     ] in
-    (omega (arith, inv.0, s.0, s.1.0, s.1.2), s.0 ∙ inv.1, subst Below (sym next) after)
+    (omega (arith, inv.0, s.0, s.1.0, s.1.2), s.0 ∙ inv.1, kept)
 
 pub returns : goal.returns
 returns g c =
