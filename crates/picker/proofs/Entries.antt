@@ -1,6 +1,6 @@
 -- Kept frames and their gains, as the code changes them. Assumes nothing.
 use Rattle.std.proofs.Common.{◌≡◌, ℕ, zero, suc, ◌+◌, ◌<◌, ◌≤◌, true, cond, ◌&&◌, ltb, leb, List, [], ◌∷◌, ◌++◌, map, length, get_or, set, refl, ap, ◌∙◌, arith}
-use Rattle.std.proofs.lemmas.List.{map_push, map-set, length-map, get_or-map}
+use Rattle.std.proofs.lemmas.List.{map_push, map-set, length-map, length-set, length_push, get_or-map}
 use Rattle.std.proofs.lemmas.List.Sums.{sum_by_push, sum_by-set, get_or-le-sum_by}
 use Rattle.std.proofs.lemmas.Bool.{le-leb, leb-true, lt-ltb, and_from, and_parts, cond-true}
 use Rattle.frames.specs.declared.frame.Frame.{Frame}
@@ -20,11 +20,11 @@ module _ (x : Frame) (g : ℕ) (r : InRange x) (l : g ≤ 4294967295) where
   here : (in_range x && leb g 4294967295) ≡ true
   here = and_from _ _ (in_range_test x r) (le-leb g 4294967295 l)
 
-  pub sound_push : (es : List (Frame × ℕ)) → sound es ≡ true → sound (es ++ ((x, g) ∷ [])) ≡ true
+  sound_push : (es : List (Frame × ℕ)) → sound es ≡ true → sound (es ++ ((x, g) ∷ [])) ≡ true
   sound_push [] h = and_from _ _ here refl
   sound_push (e ∷ es) h = let two = and_parts _ (sound es) h in and_from _ _ two.0 (sound_push es two.1)
 
-  pub sound-set : (es : List (Frame × ℕ)) (p : ℕ) → sound es ≡ true → sound (set es p (x, g)) ≡ true
+  sound-set : (es : List (Frame × ℕ)) (p : ℕ) → sound es ≡ true → sound (set es p (x, g)) ≡ true
   sound-set [] p h = h
   sound-set (e ∷ es) zero h = let two = and_parts (in_range e.0 && leb e.1 4294967295) (sound es) h in and_from _ _ here two.1
   sound-set (e ∷ es) (suc p) h = let two = and_parts (in_range e.0 && leb e.1 4294967295) (sound es) h in and_from _ _ two.0 (sound-set es p two.1)
@@ -33,7 +33,7 @@ as_pair : Entry → Frame × ℕ
 as_pair e = (e.frame, e.gain)
 
 module _ (es fs : List Entry) (x : Frame) (g : ℕ) where
-  pub held_push : length (held es) < 48 → fs ≡ cond (ltb (length es) 48) (es ++ entry x g ∷ []) es → held fs ≡ held es ++ ((x, g) ∷ [])
+  held_push : length (held es) < 48 → fs ≡ cond (ltb (length es) 48) (es ++ entry x g ∷ []) es → held fs ≡ held es ++ ((x, g) ∷ [])
   unfolding as_pair
   held_push l h =
       let few : length es < 48 = omega (arith, length-map es as_pair) in
@@ -44,7 +44,7 @@ module _ (es fs : List Entry) (x : Frame) (g : ℕ) where
   held-set p h = ap (map as_pair) h ∙ map-set as_pair es p (entry x g)
 
 module _ (es : List (Frame × ℕ)) (x : Frame) (g : ℕ) where
-  pub total_push : total (es ++ ((x, g) ∷ [])) ≡ total es + g
+  total_push : total (es ++ ((x, g) ∷ [])) ≡ total es + g
   total_push = sum_by_push (λ (e : Frame × ℕ). e.1) es (x, g)
 
   -- a place's gain leaves the sum, and g comes to it
@@ -53,6 +53,19 @@ module _ (es : List (Frame × ℕ)) (x : Frame) (g : ℕ) where
       let d : Frame × ℕ = (no_frame, 0) in
       let here : gain_at es p ≡ (get_or es p d).1 = get_or-map (λ (e : Frame × ℕ). e.1) es p d 0 l in
       (omega (arith, get_or-le-sum_by (λ (e : Frame × ℕ). e.1) es p d l), omega (arith, sum_by-set (λ (e : Frame × ℕ). e.1) es p (x, g) d l))
+
+-- the kept entries once there is one more, or another at a place: how many, that all are sound, and the sum of their gains
+module _ (x : Frame) (g : ℕ) (r : InRange x) (l : g ≤ 4294967295) (es fs : List Entry) (good : sound (held es) ≡ true) where
+  pub pushed : length (held es) < 48 → fs ≡ cond (ltb (length es) 48) (es ++ entry x g ∷ []) es → (length (held fs) ≡ length (held es) + 1) × (sound (held fs) ≡ true) × (total (held fs) ≡ total (held es) + g)
+  pushed few h =
+      let e = held_push es fs x g few h in
+      (ap length e ∙ length_push (held es) (x, g), ap sound e ∙ sound_push x g r l (held es) good, ap total e ∙ total_push (held es) x g)
+
+  pub replaced : (p : ℕ) → p < length (held es) → fs ≡ set es p (entry x g) → (length (held fs) ≡ length (held es)) × (sound (held fs) ≡ true) × (gain_at (held es) p ≤ total (held es)) × (total (held fs) + gain_at (held es) p ≡ total (held es) + g)
+  replaced p k h =
+      let e = held-set es fs x g p h in
+      let moved = total-set (held es) x g p k in
+      (ap length e ∙ length-set (held es) p (x, g), ap sound e ∙ sound-set x g r l (held es) p good, moved.0, omega (arith, ap total e, moved.1))
 
 pub in_range_lem : (x : Frame) → in_range x ≡ true → InRange x
 in_range_lem x h =

@@ -1,9 +1,6 @@
-use Rattle.std.proofs.Common.{◌≡◌, ℕ, ◌+◌, ◌-◌, ◌≤◌, true, length, set, refl, ap, ◌∙◌, arith, rules}
-use Rattle.std.proofs.lemmas.List.{length-set}
-use Rattle.frames.specs.declared.frame.Frame.{Frame}
+use Rattle.std.proofs.Common.{◌+◌, refl, ap, arith, rules}
 use Rattle.kept.specs.Tables.{held}
-use Rattle.picker.specs.Entries.{sound, total}
-use Rattle.picker.proofs.Entries.{held-set, sound-set, total-set}
+use Rattle.picker.proofs.Entries.{held-set, total-set, replaced}
 use Rattle.picker.proofs.picker.Picker.swap.Goals as goal
 
 pub overflow_sub-self : goal.overflow_sub-self
@@ -14,22 +11,13 @@ overflow_sub-self g c =
 pub invariant_of-self : goal.invariant_of-self
 invariant_of-self g c =
     let p = c.args.self.now in
-    let es = held p.table in
-    let u = c.replace.new.self in
-    let e : Frame × ℕ = (c.args.newcomer.frame, c.args.gain) in
-    let kept_is : held u ≡ set es c.args.place e = held-set p.table u c.args.newcomer.frame c.args.gain c.args.place c.replace.ensures in
-    let long : length (held u) ≡ length es = ap length kept_is ∙ length-set es c.args.place e in
-    let small : c.args.gain ≤ 4294967295 = omega (arith, c.ranges.gain.fits) in
-    let room : length (held u) ≤ p.size.n = omega (arith, p.room) in
-    let good : sound (held u) ≡ true = ap sound kept_is ∙ sound-set c.args.newcomer.frame c.args.gain c.args.newcomer.range small es c.args.place p.kept in
-    let moved = total-set es c.args.newcomer.frame c.args.gain c.args.place c.requires.place in
-    let sums : p.gain - c.from-2.result + c.from-3.result ≡ total (held u) = omega (arith, p.gains, c.gain_at-was.ensures, c.from-2.ensures, c.from-3.ensures, moved.0, moved.1, ap total kept_is) in
+    let kept = replaced c.args.newcomer.frame c.args.gain c.args.newcomer.range (omega (arith, c.ranges.gain.fits)) p.table c.replace.new.self p.kept c.args.place c.requires.place c.replace.ensures in
     record {
-      room = room;
-      kept = good;
+      room = omega (arith, p.room, kept.0);
+      kept = kept.1;
       taken = omega (arith, c.requires.seen);
       bound = p.bound;
-      gains = sums;
+      gains = omega (arith, p.gains, c.gain_at-was.ensures, c.from-2.ensures, c.from-3.ensures, kept.2, kept.3);
       less = omega (arith, p.less, c.from-3.ensures, c.from.ensures);
       most = omega (arith, p.most, c.from.ensures);
     }
