@@ -31,18 +31,10 @@ returns c =
     let both = ran_at c.args.text.now c.args.sheet.now c.run.new.sheet c.run.result.answer (held p.table) p.took {ws' = weights} {cs' = caps} c.in_ok-objective.ensures.accepted.0 c.in_ok-matroid.ensures.accepted size (c.run.ensures.label, c.run.ensures.left) in
     record { ran = (both.0, ap (λ r. r.1) both.1); quarter = both.0.quarter; sheet = ap (λ r. r.0) both.1 }
 
-pub returns-in_err-objective-clause-ran : goal.returns-in_err-objective-clause-ran
+pub returns-in_err-objective : goal.returns-in_err-objective
 unfolding numbers_fault
-returns-in_err-objective-clause-ran c = absurd (some_none c.in_err-objective.field-0.0 c.in_err-objective.ensures.fault)
+returns-in_err-objective c = absurd (some_none c.in_err-objective.field-0.0 c.in_err-objective.ensures.fault)
 
-pub returns-in_err-objective-clause-quarter : goal.returns-in_err-objective-clause-quarter
+pub returns-in_err-matroid : goal.returns-in_err-matroid
 unfolding numbers_fault
-returns-in_err-objective-clause-quarter c = absurd (some_none c.in_err-objective.field-0.0 c.in_err-objective.ensures.fault)
-
-pub returns-in_err-matroid-clause-ran : goal.returns-in_err-matroid-clause-ran
-unfolding numbers_fault
-returns-in_err-matroid-clause-ran c = absurd (some_none c.in_err-matroid.field-0.0 c.in_err-matroid.ensures.fault)
-
-pub returns-in_err-matroid-clause-quarter : goal.returns-in_err-matroid-clause-quarter
-unfolding numbers_fault
-returns-in_err-matroid-clause-quarter c = absurd (some_none c.in_err-matroid.field-0.0 c.in_err-matroid.ensures.fault)
+returns-in_err-matroid c = absurd (some_none c.in_err-matroid.field-0.0 c.in_err-matroid.ensures.fault)
