@@ -3,7 +3,6 @@ use Rattle.std.proofs.Common.{◌≡◌, ◌≢◌, ℕ, ◌+◌, ◌*◌, ◌%�
 use Rattle.frames.specs.Refusals.{number_of}
 use Rattle.frames.specs.declared.frame.Frame.{Frame}
 use Rattle.frames.specs.declared.refusal.Refusal.{Refusal}
-use Rattle.frames.specs.declared.refusal.Refusal.TheVariants.{BadSize, ShiftFull, NoPlace, ShortSheet, WrongKey, BadForm, Over, Cut, LongText, Miscount, Rising, BadParent}
 use Rattle.encoding.specs.Requests.{Requested, Encodes}
 use Rattle.serving.specs.declared.refusal.RunRefusal.{RunRefusal}
 use Rattle.serving.specs.declared.refusal.RunRefusal.TheVariants.{BadCalls, ShortAnswers}
@@ -14,18 +13,7 @@ use Rattle.exports.proofs.Served.{served_told}
 
 -- refusals have the numbers 1 to 12
 few_numbers : (x : Refusal) → (1 ≤ number_of x) × (number_of x ≤ 12)
-few_numbers BadSize = (omega arith, omega arith)
-few_numbers ShiftFull = (omega arith, omega arith)
-few_numbers NoPlace = (omega arith, omega arith)
-few_numbers ShortSheet = (omega arith, omega arith)
-few_numbers WrongKey = (omega arith, omega arith)
-few_numbers BadForm = (omega arith, omega arith)
-few_numbers Over = (omega arith, omega arith)
-few_numbers Cut = (omega arith, omega arith)
-few_numbers LongText = (omega arith, omega arith)
-few_numbers Miscount = (omega arith, omega arith)
-few_numbers Rising = (omega arith, omega arith)
-few_numbers BadParent = (omega arith, omega arith)
+few_numbers x = (grind arith, grind arith)
 
 -- so a refused argument is told by a number whose low bits are not all 0
 low_bits : (a b c : ℕ) → 1 ≤ a → a ≤ 12 → (a + 256 * b + 65536 * c) % 65536 ≢ 0
