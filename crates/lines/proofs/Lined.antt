@@ -13,7 +13,6 @@ use Rattle.spots.specs.declared.fault.LineFault.{LineFault}
 use Rattle.spots.specs.declared.fault.LineFault.TheVariants.{BadForm, Over}
 use Rattle.spots.specs.declared.fault.Spot.{Spot}
 use Rattle.records.specs.declared.key.Key.{Key}
-use Rattle.records.specs.declared.key.Key.TheVariants.{Number, Marks, Look, Lane, Tail, Head, Side}
 use Rattle.records.specs.declared.line.Line.{Line}
 use Rattle.records.proofs.Keys.{front_common}
 use Rattle.records.proofs.Feeds.{feed_splits}
@@ -21,22 +20,10 @@ use Rattle.records.proofs.Roundtrip.{line_joined, line_shown, read_line_shown}
 use Rattle.records.proofs.LineCases.{no_key, key_there, no_end, end_there, no_form, too_high, all_well}
 
 pub key_some : (k : Key) → 0 < length (key_bytes k)
-key_some Number = omega arith
-key_some Marks = omega arith
-key_some Look = omega arith
-key_some Lane = omega arith
-key_some Tail = omega arith
-key_some Head = omega arith
-key_some Side = omega arith
+key_some k = grind arith
 
 pub longest_le : (k : Key) → longest k ≤ 16
-longest_le Number = omega arith
-longest_le Marks = omega arith
-longest_le Look = omega arith
-longest_le Lane = omega arith
-longest_le Tail = omega arith
-longest_le Head = omega arith
-longest_le Side = omega arith
+longest_le k = grind arith
 
 pub line_no_key : (k : Key) (s : List ℕ) → common_prefix_len eqb (key_bytes k) s < length (key_bytes k) → read_line k s ≡ Err (key_amiss (key_bytes k) s)
 unfolding read_line
