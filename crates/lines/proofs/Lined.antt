@@ -132,4 +132,4 @@ line_means k text at number start (Ok l) p =
     let h = line_shown k (drop at text) p.0 (drop (behind (digits_of l)) text) p.1.reads in
     (p.0, p.1.number, digits_printed k text at p.0 l p.1, h.0, h.1)
 line_means k text at number start (Err f) p =
-    λ v rest low e. cc (ap (read_line k) e ∙ read_line_shown k v rest low, p.1)
+    λ v rest low e. let no : ⊥ = cc (ap (read_line k) e ∙ read_line_shown k v rest low, p.1) in no
