@@ -4,7 +4,7 @@ use Rattle.std.specs.Fmt.{decimal}
 use Rattle.frames.specs.declared.refusal.Refusal.{Refusal}
 use Rattle.frames.specs.declared.refusal.Refusal.TheVariants as refusals
 use Rattle.frames.specs.Refusals.{text_of}
-use Rattle.spots.specs.Faults.{spot, line_refusal, line_spot, line_text}
+use Rattle.spots.specs.Faults.{spot, line_refusal, line_spot, line_fault_text}
 use Rattle.spots.specs.declared.fault.Spot.{Spot}
 use Rattle.faults.specs.declared.fault.RecordFault.{RecordFault}
 use Rattle.faults.specs.declared.fault.RecordFault.TheVariants.{Line, ShiftFull}
@@ -30,11 +30,11 @@ text_spot (Record f) = record_spot f
 text_spot LongText = spot 0 0 0
 
 -- what a record's fault says: a full shift names no line
-abbrev pub record_text : RecordFault → List ℕ
-record_text (Line f) = line_text f
-record_text (ShiftFull r b) = text_of refusals.ShiftFull ++ codes ", in record " ++ decimal r ++ codes ", at byte " ++ decimal b
+abbrev pub record_fault_text : RecordFault → List ℕ
+record_fault_text (Line f) = line_fault_text f
+record_fault_text (ShiftFull r b) = text_of refusals.ShiftFull ++ codes ", in record " ++ decimal r ++ codes ", at byte " ++ decimal b
 
 -- what a text's fault says: a text that is too long names no place
 abbrev pub text_fault_text : TextFault → List ℕ
-text_fault_text (Record f) = record_text f
+text_fault_text (Record f) = record_fault_text f
 text_fault_text LongText = text_of refusals.LongText

@@ -1,5 +1,5 @@
 ghost use Rattle.std.specs.Prelude.{Some};
-ghost use Rattle.faults.specs.Faults.{record_text, text_fault_text};
+ghost use Rattle.faults.specs.Faults.{record_fault_text, text_fault_text};
 
 use crate::fault::{RecordFault, TextFault};
 use frames::refusal::Refusal;
@@ -7,7 +7,7 @@ use std::error::Error;
 use std::fmt;
 
 impl fmt::Display for RecordFault {
-    ghost output = { λ e. Some (record_text e) };
+    ghost output = { λ e. Some (record_fault_text e) };
 
     fn fmt<W: fmt::Write>(&self, f: &mut fmt::Formatter<W>) -> fmt::Result {
         match self {

@@ -36,7 +36,7 @@ impl Written for Value {
     }
 }
 
-// How many decimal digits `n` takes, 0 as many as 1. Without a test for 0, which no processor foresees among the lines.
+// How many decimal digits `n` takes, 0 as many as 1. Without a test for 0, which stands on some lines and not on others.
 #[tactic(auto, using(crate::proofs::Numerals::decimal_long))]
 fn decimal_len(n: u64) -> usize
     ensures { result ≡ length (decimal n) }

@@ -28,5 +28,5 @@ abbrev pub spot_text : Spot → List ℕ
 spot_text s = codes ", in record " ++ decimal s.«record» ++ codes ", line " ++ decimal s.line ++ codes ", at byte " ++ decimal s.byte
 
 -- what a line's fault says: the refusal, and where the text stopped
-abbrev pub line_text : LineFault → List ℕ
-line_text e = text_of (line_refusal e) ++ spot_text (line_spot e)
+abbrev pub line_fault_text : LineFault → List ℕ
+line_fault_text e = text_of (line_refusal e) ++ spot_text (line_spot e)
