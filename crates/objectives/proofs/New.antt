@@ -1,9 +1,9 @@
 -- The classes that a frame shows anew, and what it has to gain by them.
-use Rattle.std.proofs.Common.{◌≡◌, ℕ, zero, suc, ◌+◌, ◌-◌, ◌^◌, ◌<◌, ◌≤◌, cond, eqb, min, List, [], ◌∷◌, get_or, length, take, drop, length-drop, inl, inr, ap, ◌∙◌, sym, arith}
+use Rattle.std.proofs.Common.{◌≡◌, ℕ, zero, suc, ◌+◌, ◌-◌, ◌/◌, ◌%◌, ◌^◌, ◌<◌, ◌≤◌, cond, eqb, min, List, [], ◌∷◌, get_or, length, take, drop, length-drop, inl, inr, ap, ◌∙◌, sym, arith}
 use lib.Bits.{bit_and}
 use lib.Count.{count_leading_zeros}
 use Rattle.std.specs.Int.{w64, bit_at, bit_not, trailing_zeros}
-use Rattle.std.proofs.lemmas.Nat.{and_le_r, trailing_le, leading_length}
+use Rattle.std.proofs.lemmas.Nat.{and_le_r, shr-shr, trailing_le, leading_length}
 use Rattle.std.proofs.lemmas.Nat.Bits.{bit_at-zero, bit_at-trailing_zeros, bit_at_above}
 use Rattle.std.proofs.lemmas.List.{get_or-take, get_or-drop, length-take}
 use Rattle.std.proofs.lemmas.Bool.{cases_lt}
@@ -41,14 +41,22 @@ module _ (covered : ℕ) (x : Frame) where
     | inr l ↦ let one = (bit_at-trailing_zeros w64 shown some low).1 in let none = past_last shown first low l in absurd (omega arith)
   ]
 
+  -- bit i of the mask from the first new class on is class first + i
+  shown_from : (i : ℕ) → shows (shown / 2 ^ first) i ≡ shows shown (first + i)
+  shown_from i = ap (λ n. eqb (n % 2) 1) (shr-shr shown first i)
+
   module _ (weights : List ℕ) where
     -- the weights from the first new class to the end: how many they are, and what stands among them
     module _ (part : List ℕ) (e : part ≡ take (end - first) (drop first weights)) where
       pub part_long : length part ≡ min (end - first) (length weights - first)
       part_long = ap length e ∙ length-take (end - first) (drop first weights) ∙ ap (min (end - first)) (length-drop first weights)
 
-      pub part_at : (i : ℕ) → i < end - first → get_or part i 0 ≡ get_or weights (first + i) 0
+      part_at : (i : ℕ) → i < end - first → get_or part i 0 ≡ get_or weights (first + i) 0
       part_at i l = ap (λ r. get_or r i 0) e ∙ get_or-take (end - first) (drop first weights) i 0 l ∙ get_or-drop first weights i 0
+
+      -- what the weight there counts
+      pub part_shown : (i : ℕ) → i < end - first → cond (shows (shown / 2 ^ first) i) (get_or part i 0) 0 ≡ cond (shows shown (first + i)) (get_or weights (first + i) 0) 0
+      part_shown i l = ap (λ b. cond b (get_or part i 0) 0) (shown_from i) ∙ ap (λ w. cond (shows shown (first + i)) w 0) (part_at i l)
 
     -- what x gains by the classes below n
     abbrev pub gain_below : ℕ → ℕ

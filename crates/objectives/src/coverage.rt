@@ -1,6 +1,6 @@
-ghost use Rattle.std.specs.Prelude.{◌≡◌, ℕ, ◌-◌, ◌≤◌, length, take, drop, IfOk, MatchResult, slice_index};
+ghost use Rattle.std.specs.Prelude.{◌≡◌, ℕ, ◌-◌, ◌<◌, ◌≤◌, length, take, drop, IfOk, if◌then◌else◌, MatchResult, slice_index};
 ghost use Rattle.std.specs.Result.{result_err};
-ghost use Rattle.kinds.specs.Objectives.{coverage, uncovered};
+ghost use Rattle.kinds.specs.Objectives.{coverage, uncovered, shows};
 ghost use Rattle.frames.specs.Settings.{numbers_fault};
 ghost use Rattle.kinds.proofs.Covered.{coverage_keeps, uncovered_keeps};
 
@@ -61,12 +61,12 @@ impl Objective for Coverage {
         let first = shown.trailing_zeros() as usize;
         let end = CLASSES - shown.leading_zeros() as usize;
         let weights = between(&self.weights, first, end);
+        // shifted once, and not in each turn
+        let new = shown >> first;
         let mut gain = 0;
         // a rule of the project: a loop over the weights with their index, not a chain
         for (i, weight) in weights.iter().enumerate() {
-            if (shown >> (first + i)) % 2 == 1 {
-                gain += *weight;
-            }
+            gain += weight_if_shown(new, i, *weight);
         }
         gain
     }
@@ -86,4 +86,12 @@ fn between(weights: &[u32], first: usize, end: usize) -> &[u32]
     ensures { result.now ≡ take (end - first) (drop first weights.now) }
 {
     &weights[first..end]
+}
+
+// The weight of class i if it is among those shown, or 0: a selection, as jumps on random marks are mispredicted.
+fn weight_if_shown(shown: u64, i: usize, weight: u32) -> u32
+    requires { i < 64 }
+    ensures { result ≡ (if shows shown i then weight else 0) }
+{
+    if (shown >> i) % 2 == 1 { weight } else { 0 }
 }
