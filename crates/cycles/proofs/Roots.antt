@@ -49,8 +49,20 @@ module _ (labels : List ℕ) (low : (k : ℕ) → slice_index labels k ≤ k) wh
   unfolding root
   root_next w = ⊎_elim (λ l. settled (next labels) (next_low labels low) (length labels) w (omega arith)) (λ l. ap (root labels) (get_or_past labels w w l)) (cases_lt w (length labels))
 
--- the root a, no greater than b, is written over the root b, and all that led to b leads to a
-module _ (labels : List ℕ) (low : (k : ℕ) → slice_index labels k ≤ k) (a b : ℕ) (less : a ≤ b) (within : b < length labels) (own_a : slice_index labels a ≡ a) (own_b : slice_index labels b ≡ b) where
+  -- no station leads to a greater one
+  root_low : (w : ℕ) → root labels w ≤ w
+  root_low w = by_steps (next labels) (next_low labels low) (λ v. root labels v ≤ v) (λ v e. let own = root_own v e in omega arith) (λ v l h. let one = root_next v in omega arith) w w (omega arith)
+
+  -- so a station that is its own root is its own label
+  pub root_itself : (w : ℕ) → w < length labels → root labels w ≡ w → slice_index labels w ≡ w
+  root_itself w l e =
+      ⊎_elim
+      (λ k. get_or_default labels w 0 w l ∙ k)
+      (λ k. let one = root_next w in let less = root_low (next labels w) in omega arith)
+      (rest_or_fall (next labels) (next_low labels low) w)
+
+-- a, no greater than b, is written over the label of b
+module _ (labels : List ℕ) (low : (k : ℕ) → slice_index labels k ≤ k) (a b : ℕ) (less : a ≤ b) (within : b < length labels) where
   abbrev linked : List ℕ
   linked = set labels b a
 
@@ -63,8 +75,9 @@ module _ (labels : List ℕ) (low : (k : ℕ) → slice_index labels k ≤ k) (a
   next_other : (w : ℕ) → w ≢ b → next linked w ≡ next labels w
   next_other w n = get_or-set_other labels b w a w n
 
-  pub root_linked : (w : ℕ) → root linked w ≡ merged a b (root labels w)
-  root_linked w = by_steps (next labels) (next_low labels low) (λ v. root linked v ≡ merged a b (root labels v)) rest fall w w (omega arith)
+  -- where both were roots, all that led to b leads to a
+  pub root_linked : slice_index labels a ≡ a → slice_index labels b ≡ b → (w : ℕ) → root linked w ≡ merged a b (root labels w)
+  root_linked own_a own_b w = by_steps (next labels) (next_low labels low) (λ v. root linked v ≡ merged a b (root labels v)) rest fall w w (omega arith)
     where
       at_a : next linked a ≡ a
       at_a = ⊎_elim (λ e. ap (next linked) e ∙ next_linked) (λ e. next_other a e ∙ get_or_default labels a a 0 (omega arith) ∙ own_a) (cases_eq a b)
@@ -83,6 +96,24 @@ module _ (labels : List ℕ) (low : (k : ℕ) → slice_index labels k ≤ k) (a
           ∙ ap (root linked) (next_other v (λ k. let own = get_or_default labels b b 0 within ∙ own_b in omega (arith, ap (next labels) k)))
           ∙ e
           ∙ ap (merged a b) (root_next labels low v)
+
+  -- where a is another station on the way from b, each station leads where it did
+  pub root_shortened : a < b → root labels a ≡ root labels b → (w : ℕ) → root linked w ≡ root labels w
+  root_shortened short leads w = by_steps (next linked) (next_low linked linked_low) (λ v. root linked v ≡ root labels v) rest fall w w (omega arith)
+    where
+      rest : (v : ℕ) → next linked v ≡ v → root linked v ≡ root labels v
+      rest v e =
+          let other : v ≢ b = λ k. let at_b = next_linked in omega (arith, ap (next linked) k) in
+          root_own linked linked_low v e ∙ sym (root_own labels low v (sym (next_other v other) ∙ e))
+
+      fall : (v : ℕ) → next linked v < v → root linked (next linked v) ≡ root labels (next linked v) → root linked v ≡ root labels v
+      fall v l e =
+          sym (root_next linked linked_low v)
+          ∙ e
+          ∙ ⊎_elim
+          (λ k. ap (root labels) (ap (next linked) k ∙ next_linked) ∙ leads ∙ ap (root labels) (sym k))
+          (λ k. ap (root labels) (next_other v k) ∙ root_next labels low v)
+          (cases_eq v b)
 
 -- of two roots the greater leads to the smaller
 pub root_merged : (labels : List ℕ) → ((k : ℕ) → slice_index labels k ≤ k) → (a b : ℕ) → a < length labels → b < length labels → slice_index labels a ≡ a → slice_index labels b ≡ b → (w : ℕ) → root (set labels (max a b) (min a b)) w ≡ merged (min a b) (max a b) (root labels w)

@@ -46,14 +46,17 @@ impl Labels {
         Labels { labels }
     }
 
-    // The root that the station leads to.
-    fn root(&self, station: u8) -> u8
-        ensures value { result ≡ root self.now.labels station }
-        ensures own { slice_index self.now.labels result ≡ result }
+    // The root that the station leads to. Each label on the way is led past the next one, which halves the way of the next walk.
+    fn root(&mut self, station: u8) -> u8
+        ensures value { result ≡ root self.old.labels station }
+        ensures own { slice_index self.new.labels result ≡ result }
+        ensures same { (w : ℕ) → root self.new.labels w ≡ root self.old.labels w }
     {
         let mut here = station;
         while self.labels[here as usize] != here {
-            here = self.labels[here as usize];
+            let past = self.labels[self.labels[here as usize] as usize];
+            self.labels[here as usize] = past;
+            here = past;
         }
         here
     }
