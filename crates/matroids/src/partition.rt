@@ -38,6 +38,14 @@ impl PartitionMatroid {
         })
     }
 
+    // The caps, by lane. Of any partition matroid it tells that these are in order, which a contract sees of no model.
+    pub fn caps(&self) -> &[u8]
+        ensures value { result.now ≡ self.now }
+        ensures fits { (length self.now ≡ 64) × ((i : ℕ) → slice_index self.now i ≤ 48) }
+    {
+        &self.caps
+    }
+
     // Other caps. Caps that are refused leave those that were there. Each kind's own: see `Matroid`.
     pub fn set(&mut self, caps: &[u32]) -> Result<(), SettingFault>
         ensures fault { result_err result ≡ numbers_fault 64 48 caps.now }
