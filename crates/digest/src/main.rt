@@ -1,6 +1,7 @@
 #![tactic(auto)]
 
 ghost use Rattle.std.specs.Prelude.{◌≡◌, ◌*◌, ◌≤◌, true, List, [], ◌∷◌, take, Some as SomeOf, MatchResult};
+ghost use Rattle.std.specs.Result.{IfOk, result_err};
 ghost use Rattle.theory.specs.Bag.{Choice};
 ghost use Rattle.theory.specs.Replay.{frames};
 ghost use Rattle.frames.specs.declared.frame.Frame.{Frame as FrameOf};
@@ -45,6 +46,15 @@ fn shift(text: &[u8], sheet: &mut [u8]) -> Result<Ran<Coverage, PartitionMatroid
     Ok(run(size, objective, matroid, &[Call::Text(text)], sheet))
 }
 
+// The lines that were printed at the front of the sheet, if they had room there.
+fn printed(length: Result<usize, Refusal>, sheet: &[u8]) -> Result<&[u8], Refusal>
+    ensures lines { IfOk result (λ lines. IfOk length (λ n. lines.now ≡ take n sheet.now)) }
+    ensures fault { result_err result ≡ result_err length }
+{
+    let n = length?;
+    Ok(&sheet[..n.min(sheet.len())])
+}
+
 fn main(rt: HostRuntime) -> anyhow::Result<()> {
     let mut text = Vec::new(rt.alloc());
     // one byte more than a text may have, so that a longer one is refused; a public constant for this one program would be
@@ -53,10 +63,10 @@ fn main(rt: HostRuntime) -> anyhow::Result<()> {
     let mut sheet = [0; 512];
     let ran = shift(text.as_slice(), &mut sheet)?;
     if let Some(Answer::Texted(Err(fault))) = ran.answer {
-        let n = print_fault(&fault, &mut sheet)?;
-        rt.stdout().write_all(&sheet[..n])?;
+        let lines = printed(print_fault(&fault, &mut sheet), &sheet)?;
+        rt.stdout().write_all(lines)?;
     }
-    let n = ran.picker.print(&mut sheet)?;
-    rt.stdout().write_all(&sheet[..n])?;
+    let lines = printed(ran.picker.print(&mut sheet), &sheet)?;
+    rt.stdout().write_all(lines)?;
     Ok(())
 }
