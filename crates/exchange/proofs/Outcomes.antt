@@ -19,7 +19,7 @@ module _ (adm : List Frame → Bool) (n : ℕ) (es : List (Frame × ℕ)) (x : F
       ∙ ap (displaced es g) (lightest_from (may_take adm es x) (gains es) o is))
 
 -- what is kept after an outcome
-abbrev kept_after : Outcome → Frame → List (Frame × ℕ) → List (Frame × ℕ)
+abbrev pub kept_after : Outcome → Frame → List (Frame × ℕ) → List (Frame × ℕ)
 kept_after Empty x es = es
 kept_after (Kept p g) x es = es ++ ((x, g) ∷ [])
 kept_after (Swapped p g l) x es = slice_set es p (x, g)
@@ -27,7 +27,7 @@ kept_after (Light p g l) x es = es
 kept_after (Barred g) x es = es
 
 -- whether x is kept, so that the objective has it added
-abbrev accepted : Outcome → Bool
+abbrev pub accepted : Outcome → Bool
 accepted Empty = false
 accepted (Kept p g) = true
 accepted (Swapped p g l) = true

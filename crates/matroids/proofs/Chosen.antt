@@ -1,6 +1,7 @@
--- The frames that a set chooses, by the lowest of its places and the others. Assumes nothing.
-use Rattle.std.proofs.Common.{◌≡◌, ℕ, zero, suc, ◌-◌, ◌/◌, ◌%◌, ◌^◌, ◌<◌, ◌≤◌, eqb, List, [], ◌∷◌, length, get_or, sym, refl, ap, ◌∙◌, arith, bit_and, w64}
+-- The frames that a set chooses, by the lowest of its places and the others, and place by place. Assumes nothing.
+use Rattle.std.proofs.Common.{◌≡◌, ℕ, zero, suc, ◌+◌, ◌-◌, ◌/◌, ◌%◌, ◌^◌, ◌<◌, ◌≤◌, if◌then◌else◌, eqb, List, [], ◌∷◌, length, get_or, drop, sym, refl, ap, ◌∙◌, arith, bit_and, w64}
 use Rattle.std.specs.Int.{bit_at, trailing_zeros}
+use Rattle.std.proofs.lemmas.List.{at_drop_more, at_drop_all}
 use Rattle.std.proofs.lemmas.Nat.{and_le_l, and_le_r, and_shr, and_mod}
 use lib.Bits.{and_self}
 use Rattle.std.proofs.lemmas.Nat.Bits.{bit_at_lowest, bit_at-suc, bit_at-trailing_zeros}
@@ -62,3 +63,12 @@ module _ {A : Type 0} (xs : List A) (n : ℕ) (some : 0 < n) (fits : n < 2 ^ 64)
   chosen_none l =
       let lowest = bit_at-trailing_zeros w64 n some fits in
       chosen_past xs n (λ i k. lowest.2 i (omega arith))
+
+module _ {A B : Type 0} (f : List A → B) (xs : List A) (i n : ℕ) where
+  -- bit 0 of what is left of the set says whether place i is chosen
+  pub chosen_more : (d : A) → i < length xs → f (chosen (drop i xs) n) ≡ f (if eqb (n % 2) 1 then get_or xs i d ∷ chosen (drop (i + 1) xs) (n / 2) else chosen (drop (i + 1) xs) (n / 2))
+  chosen_more d l = at_drop_more (λ ys. f (chosen ys n)) xs i d l
+
+  -- no place is left to be chosen
+  pub chosen-all : length xs ≤ i → f (chosen (drop i xs) n) ≡ f []
+  chosen-all l = at_drop_all (λ ys. f (chosen ys n)) xs i l

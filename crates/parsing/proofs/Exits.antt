@@ -46,7 +46,7 @@ refused {l₀} {l} {f} {k} r h begins unread by =
     (p, record_means text start number r p)
 
 -- a record that was read stands there
-stands : (text : List ℕ) (at : ℕ) (x : Frame) (behind : ℕ) → read_record (drop at text) ≡ Ok (x, drop behind text) → at ≤ behind → behind ≤ length text → Stands text at x behind × (InRange x × (drop at text ≡ shown x ++ drop behind text))
+pub stands : (text : List ℕ) (at : ℕ) (x : Frame) (behind : ℕ) → read_record (drop at text) ≡ Ok (x, drop behind text) → at ≤ behind → behind ≤ length text → Stands text at x behind × (InRange x × (drop at text ≡ shown x ++ drop behind text))
 stands text at x behind e grows within =
     let g : behind ≡ at + length (shown x) = omega (arith, record_shortens (drop at text) x (drop behind text) e, length-drop at text, length-drop behind text) in
     (record { reads = e; grows = g; within = within }, record_shown (drop at text) x (drop behind text) e)

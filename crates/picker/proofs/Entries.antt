@@ -20,11 +20,11 @@ module _ (x : Frame) (g : ℕ) (r : InRange x) (l : g ≤ 4294967295) where
   here : (in_range x && leb g 4294967295) ≡ true
   here = and_from _ _ (in_range_test x r) (le-leb g 4294967295 l)
 
-  sound_push : (es : List (Frame × ℕ)) → sound es ≡ true → sound (es ++ ((x, g) ∷ [])) ≡ true
+  pub sound_push : (es : List (Frame × ℕ)) → sound es ≡ true → sound (es ++ ((x, g) ∷ [])) ≡ true
   sound_push [] h = and_from _ _ here refl
   sound_push (e ∷ es) h = let two = and_parts _ (sound es) h in and_from _ _ two.0 (sound_push es two.1)
 
-  sound-set : (es : List (Frame × ℕ)) (p : ℕ) → sound es ≡ true → sound (set es p (x, g)) ≡ true
+  pub sound-set : (es : List (Frame × ℕ)) (p : ℕ) → sound es ≡ true → sound (set es p (x, g)) ≡ true
   sound-set [] p h = h
   sound-set (e ∷ es) zero h = let two = and_parts (in_range e.0 && leb e.1 4294967295) (sound es) h in and_from _ _ here two.1
   sound-set (e ∷ es) (suc p) h = let two = and_parts (in_range e.0 && leb e.1 4294967295) (sound es) h in and_from _ _ two.0 (sound-set es p two.1)
@@ -33,7 +33,7 @@ as_pair : Entry → Frame × ℕ
 as_pair e = (e.frame, e.gain)
 
 module _ (es fs : List Entry) (x : Frame) (g : ℕ) where
-  held_push : length (held es) < 48 → fs ≡ cond (ltb (length es) 48) (es ++ entry x g ∷ []) es → held fs ≡ held es ++ ((x, g) ∷ [])
+  pub held_push : length (held es) < 48 → fs ≡ cond (ltb (length es) 48) (es ++ entry x g ∷ []) es → held fs ≡ held es ++ ((x, g) ∷ [])
   unfolding as_pair
   held_push l h =
       let few : length es < 48 = omega (arith, length-map es as_pair) in
@@ -44,7 +44,7 @@ module _ (es fs : List Entry) (x : Frame) (g : ℕ) where
   held-set p h = ap (map as_pair) h ∙ map-set as_pair es p (entry x g)
 
 module _ (es : List (Frame × ℕ)) (x : Frame) (g : ℕ) where
-  total_push : total (es ++ ((x, g) ∷ [])) ≡ total es + g
+  pub total_push : total (es ++ ((x, g) ∷ [])) ≡ total es + g
   total_push = sum_by_push (λ (e : Frame × ℕ). e.1) es (x, g)
 
   -- a place's gain leaves the sum, and g comes to it

@@ -44,7 +44,7 @@ before t x q ds k e = record { joins = ap (λ u. bytes_of q ++ u) e.joins ∙ sy
 pub head_long : (t : List ℕ) (x : Request) (q : Requested) → Head t x q → x.length ≤ length t
 head_long t x q k = omega (arith, k.length, length-append (bytes_of q) (drop x.length t), ap length k.back)
 
-head_due : (t : List ℕ) (x : Request) (q : Requested) → Head t x q → fixed_of (called x.call) + x.room ≡ due_of q
+pub head_due : (t : List ℕ) (x : Request) (q : Requested) → Head t x q → fixed_of (called x.call) + x.room ≡ due_of q
 head_due t x q k = ap₂ (λ c n. fixed_of c + n) k.call k.room
 
 pub due_is : (n : ℕ) (t : List ℕ) (x : Request) (q : Requested) → n ≡ fixed_of (called x.call) + x.room → Head t x q → n ≡ due_of q
