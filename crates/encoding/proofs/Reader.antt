@@ -39,7 +39,7 @@ frame_read x rest h =
     let made : ℕ → ℕ → Frame = λ n m. record { number = n; marks = m; look = x.look; lane = x.lane; tail = x.tail; head = x.head; side = x.side } in
     ap₂ made (from_le_bytes-to_le_bytes_4 x.number h.number) (from_le_bytes-to_le_bytes_8 x.marks h.marks)
 
-text_read : (t rest : List ℕ) → length t < 2 ^ 32 → text_in (word4 (length t) ++ (t ++ rest)) ≡ Some t
+pub text_read : (t rest : List ℕ) → length t < 2 ^ 32 → text_in (word4 (length t) ++ (t ++ rest)) ≡ Some t
 text_read t rest h =
     let s = word4 (length t) ++ (t ++ rest) in
     let n = from_le_bytes w32 s in
