@@ -51,7 +51,7 @@ module _ (covered : ℕ) (x : Frame) where
       pub part_long : length part ≡ min (end - first) (length weights - first)
       part_long = ap length e ∙ length-take (end - first) (drop first weights) ∙ ap (min (end - first)) (length-drop first weights)
 
-      part_at : (i : ℕ) → i < end - first → get_or part i 0 ≡ get_or weights (first + i) 0
+      pub part_at : (i : ℕ) → i < end - first → get_or part i 0 ≡ get_or weights (first + i) 0
       part_at i l = ap (λ r. get_or r i 0) e ∙ get_or-take (end - first) (drop first weights) i 0 l ∙ get_or-drop first weights i 0
 
       -- what the weight there counts
